@@ -1,9 +1,8 @@
 -- Runs of stores: a number's bytes, a part copied, a record appended, a page's head.
-use Rattle.basics.proofs.Kit.{◌≡◌, refl, sym, ap, ◌∙◌, List, [], ◌∷◌, ◌++◌, append-nil, ℕ, ◌+◌, ◌*◌, ◌%◌, ◌≤◌, ◌<◌, ◌/◌, add-one, length, take, drop, get_or, set, length-take, length-drop}
-use Rattle.basics.proofs.Kit.{drop_of_length-le, set_split, take_all, take-suc, get_or-drop, arith}
+use Rattle.basics.proofs.Kit.{◌≡◌, refl, ap, ◌∙◌, List, [], ◌∷◌, ◌++◌, ℕ, ◌+◌, ◌*◌, ◌%◌, ◌≤◌, ◌/◌, length}
+use Rattle.basics.proofs.Kit.{arith}
 use Rattle.block_forms.specs.Limits.{record_head, owner_width}
 use Rattle.basics.specs.Lists.{over}
-use Rattle.basics.proofs.Overs.{over_over, length_over}
 use Rattle.block_forms.specs.Numbers.{be4}
 use Rattle.block_forms.specs.Tuple.{owner_size}
 use Rattle.block_forms.specs.Bytes.{owner_is, tuple_of, size_of, flags_of, owner_word, owner_bytes, record_bytes, page_head}

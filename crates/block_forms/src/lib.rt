@@ -1,4 +1,6 @@
 // The block forms: header, page and directory, each a value and 512 bytes.
+#![tactic(auto)]
+
 ghost use Rattle.std.specs.Prelude.{◌≡◌, [], ◌∷◌, ◌+◌, ◌%◌, ◌<◌, ◌≤◌, length, take, drop, leb};
 ghost use Rattle.basics.specs.Lists.{over};
 ghost use Rattle.block_forms.specs.Limits.{block_size, payload_limit, record_space, join_sum, mark_value, entries_per_block, most_number};

@@ -1,4 +1,6 @@
 // What 512 bytes are as a block: its fields are read, spelled again and compared; and a page, record by record.
+#![tactic(auto)]
+
 ghost use Rattle.std.specs.Prelude.{◌≡◌, true, ◌+◌, ◌*◌, ◌<◌, ◌≤◌, length, take};
 ghost use Rattle.block_bits.specs.Bits.{bits_in, field};
 ghost use Rattle.block_forms.specs.Limits.{block_size, page_head_size, entries_per_block};

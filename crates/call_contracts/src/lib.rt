@@ -1,4 +1,6 @@
 // What every public call answers. The contracts of the calls are relations of specs/Shape, for the crates that have calls.
+#![tactic(auto)]
+
 ghost use Rattle.std.specs.Prelude.{◌≡◌};
 ghost use Rattle.call_contracts.specs.Shape.{is_accepted};
 

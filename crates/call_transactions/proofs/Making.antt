@@ -1,6 +1,6 @@
 -- Make: its tests, and the image with block 0 written.
 use Rattle.block_forms.specs.Limits.{block_limit, block_size}
-use Rattle.basics.proofs.Kit.{◌≡◌, refl, sym, ap, ◌∙◌, ⊎_elim, true, false, List, ◌++◌, ℕ, ◌+◌, ◌*◌, ◌%◌, ◌≤◌, ◌<◌, ◌/◌, leb, eqb, ltb, length, drop, le-leb, lt-ltb, le-ltb, lt-leb}
+use Rattle.basics.proofs.Kit.{◌≡◌, refl, sym, ap, ◌∙◌, ⊎_elim, true, false, List, ◌++◌, ℕ, ◌%◌, ◌≤◌, ◌<◌, ◌/◌, leb, eqb, ltb, length, drop, le-leb, lt-ltb, le-ltb, lt-leb}
 use Rattle.basics.proofs.Kit.{eqb-true, eq-eqb, ne_eqb, eqb-false, arith}
 use Rattle.basics.specs.Basics.{if◌then◌else◌}
 use Rattle.basics.proofs.Facts.{by}

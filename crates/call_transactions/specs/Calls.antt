@@ -3,7 +3,6 @@ use Rattle.std.specs.Prelude.{◌≡◌, Bool, true, false, List, ℕ, ◌+◌, 
 use Rattle.block_forms.specs.Limits.{payload_limit, most_transaction}
 use Rattle.block_forms.specs.Tuple.{tentative}
 use Rattle.model.specs.State.{Active, Store, Outcome}
-use Rattle.model.specs.Rules.{place}
 use Rattle.model.specs.Transactions.{one_more, commit_call, abort_call}
 use Rattle.memory_layout.specs.Flat.{Flat, flat_of, Room, with_head, with_opens, no_open}
 use Rattle.memory_layout.specs.Store.{holds_store}

@@ -1,5 +1,7 @@
 // Make, and the calls of transactions. No call asks anything of its caller: each contract says what the call answers and leaves, for
 // any memory and any arguments, by the model's function.
+#![tactic(auto)]
+
 use block_forms::{Header, Owner};
 use call_contracts::Answer;
 use engine_lookup::Seen;

@@ -1,4 +1,6 @@
 // The blocks that a checkpoint takes: whether enough are free, how many are still to be taken, and the next free one.
+#![tactic(auto)]
+
 ghost use Rattle.std.specs.Prelude.{◌≡◌, true, ◌+◌, ◌-◌, ◌≤◌, ◌<◌, length, leb};
 ghost use Rattle.basics.specs.Basics.{how_many, one_if};
 ghost use Rattle.image.specs.Stages.{directories_for};

@@ -1,5 +1,7 @@
 // Commit and abort on the working memory, by row index: one pass over the rows, run by run of neighbours of one table and key, with no
 // list of operations. What they do to the pages is what the model's plans by place do, for rows in any order.
+#![tactic(auto)]
+
 ghost use Rattle.std.specs.Prelude.{◌≡◌, true, ◌+◌, ◌≤◌, ◌<◌, length};
 ghost use Rattle.model.specs.Places.{commit_row};
 ghost use Rattle.memory_layout.specs.Flat.{flat_of, Room};

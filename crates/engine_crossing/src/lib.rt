@@ -1,6 +1,8 @@
 // Bookings that cross an interval, on the working memory: one pass over the rows of a table. Rows with a key that is too low or too high to
 // cross are passed over by groups, and what the transaction sees is looked up only where some version of a key crosses. Right for rows in
 // any order. Every function only reads the memory.
+#![tactic(auto)]
+
 ghost use Rattle.std.specs.Prelude.{◌≡◌, ◌-◌, ◌≤◌, ◌<◌, min, length};
 ghost use Rattle.calendar.specs.Calendar.{minutes};
 ghost use Rattle.model.specs.Crossing.{crosses};

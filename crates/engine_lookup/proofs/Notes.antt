@@ -3,7 +3,7 @@ use Rattle.basics.proofs.Kit.{◌≡◌, refl, sym, ap, ◌∙◌, ⊎_elim, Boo
 use types.Run.{OneOf}
 use denote.Enum.Declared.{tag_of}
 use Rattle.basics.specs.Basics.{if◌then◌else◌}
-use Rattle.block_forms.specs.Tuple.{Owner, Tuple, committed}
+use Rattle.block_forms.specs.Tuple.{Owner, Tuple}
 use Rattle.model.specs.State as model
 use Rattle.model.specs.State.{Held}
 use Rattle.model.specs.Rules.{is_removing, is_committing, applied, as_committed}

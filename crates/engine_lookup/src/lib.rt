@@ -1,5 +1,7 @@
 // What a transaction sees of a key, on the working memory: the table's keys are searched by groups, and the rows between the first and the
 // last one with the key are looked at. Right for rows in any order. Every function only reads the memory.
+#![tactic(auto)]
+
 ghost use Rattle.std.specs.Prelude.{◌≡◌, true, ◌-◌, ◌≤◌, ◌<◌, length};
 ghost use Rattle.image.specs.Stages.{capacity_limit};
 ghost use Rattle.model.specs.Sight.{versions, seen};

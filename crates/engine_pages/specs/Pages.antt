@@ -1,9 +1,9 @@
 -- Pages of the memory by place, and what a function that changes them promises.
-use Rattle.std.specs.Prelude.{ℕ, suc, ◌+◌, ◌-◌, ◌≤◌, ◌<◌, ◌≡◌, true, List, ◌++◌, length, take, drop}
+use Rattle.std.specs.Prelude.{ℕ, suc, ◌+◌, ◌≤◌, ◌<◌, ◌≡◌, true, List, ◌++◌, length, take, drop}
 use Rattle.std.proofs.Math.Option.{some}
 use Rattle.model.specs.State.{Held, Page, Store}
 use Rattle.model.specs.Transactions.{changed}
-use Rattle.memory_layout.specs.Flat.{Flat, flat_of, entry_in, Room}
+use Rattle.memory_layout.specs.Flat.{flat_of, entry_in}
 use Rattle.memory_layout.specs.Store.{start_of, pages_in, page_in, holds_store, store_of, store_in}
 use Rattle.memory_layout.specs.declared.Entry.{Entry}
 

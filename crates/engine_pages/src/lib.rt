@@ -1,5 +1,7 @@
 // The rules on pages, on the memory: placing, splitting, joining, dropping, freezing and thawing. Each function that changes pages
 // promises what the model's rule makes of them, for any memory that holds a store.
+#![tactic(auto)]
+
 ghost use Rattle.std.specs.Prelude.{◌≡◌, true, false, ◌∷◌, [], ◌++◌, map, ◌+◌, ◌-◌, ◌<◌, length, take, drop};
 ghost use Rattle.block_forms.specs.Limits.{block_limit};
 ghost use Rattle.basics.specs.Basics.{any, sum};

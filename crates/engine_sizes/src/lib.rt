@@ -1,5 +1,7 @@
 // Sizes of rows: all together, whether they have room in a block, whether two pages are small enough for one, and where a page that is too
 // large is divided.
+#![tactic(auto)]
+
 ghost use Rattle.std.specs.Prelude.{◌≡◌, ◌<◌, leb};
 ghost use Rattle.basics.specs.Basics.{sum};
 ghost use Rattle.block_forms.specs.Limits.{record_space, join_sum};

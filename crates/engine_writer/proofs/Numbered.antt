@@ -1,5 +1,5 @@
 -- Directory entries and directory blocks: one by one, and a run of them.
-use Rattle.basics.proofs.Kit.{◌≡◌, sym, ap, ◌∙◌, List, ℕ, ◌+◌, ◌≤◌, ◌<◌, add-one, length, take, drop, get_or, set, length-drop, take-suc-set, take_all, take-suc, get_or-drop, arith}
+use Rattle.basics.proofs.Kit.{◌≡◌, sym, ap, ◌∙◌, List, ℕ, ◌+◌, ◌≤◌, length, take, drop, length-drop, take_all, arith}
 use Rattle.block_forms.specs.Limits.{entries_per_block}
 
 -- count entries from first on are those of one directory block

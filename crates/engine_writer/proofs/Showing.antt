@@ -1,5 +1,5 @@
 -- What a run of rows shows, row by row.
-use Rattle.basics.proofs.Kit.{◌≡◌, refl, ap, ◌∙◌, true, false, not, List, [], ◌∷◌, ◌++◌, append-nil, ℕ, suc, ◌+◌, ◌≤◌, ◌<◌, ◌-◌, add-one, length, take, drop, get_or}
+use Rattle.basics.proofs.Kit.{◌≡◌, refl, ap, ◌∙◌, true, false, List, [], ◌∷◌, ◌++◌, append-nil, ℕ, suc, ◌+◌, ◌≤◌, ◌<◌, ◌-◌, add-one, length, take, drop, get_or}
 use Rattle.basics.proofs.Kit.{drop-cons, drop-drop, take-add, arith}
 use Rattle.basics.specs.Basics.{if◌then◌else◌, sum}
 use Rattle.basics.proofs.Facts.{by}

@@ -1,4 +1,6 @@
 // The blocks that a checkpoint stores, from the working memory: each is built in zeros and copied out whole.
+#![tactic(auto)]
+
 ghost use Rattle.std.specs.Prelude.{◌≡◌, not, ◌+◌, ◌*◌, ◌-◌, ◌<◌, length, take, drop, get_or};
 ghost use Rattle.block_forms.specs.Block.{header, page, directory, encode_block};
 ghost use Rattle.model.specs.Rules.{is_adding, shown};

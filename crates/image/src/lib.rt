@@ -1,4 +1,6 @@
 // What any bytes are as an image: recovery's tests but that of the memory.
+#![tactic(auto)]
+
 ghost use Rattle.std.specs.Prelude.{◌≡◌, true, ◌+◌, ◌*◌, ◌≤◌, min, length, take};
 ghost use Rattle.basics.specs.Basics.{all};
 ghost use Rattle.basics.specs.Lists.{over};

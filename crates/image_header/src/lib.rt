@@ -1,4 +1,6 @@
 // What a header may count and name, and what its directories may name.
+#![tactic(auto)]
+
 ghost use Rattle.std.specs.Prelude.{◌≡◌, not, ◌≤◌, length};
 ghost use Rattle.basics.specs.Basics.{all, is_in};
 ghost use Rattle.image_header.specs.Names.{capacity_limit, directories_for, block_ok, is_zero, counts_ok, header_ok, entries_ok};

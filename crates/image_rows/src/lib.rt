@@ -1,4 +1,6 @@
 // The tests over all tuples of an image, on columns: one number of each tuple in each.
+#![tactic(auto)]
+
 ghost use Rattle.std.specs.Prelude.{◌≡◌, true, ◌&&◌, [], ℕ, ◌+◌, ◌<◌, ◌≤◌, length, take, drop, get_or, eqb};
 ghost use Rattle.basics.specs.Basics.{all, paired, is_in, distinct};
 ghost use Rattle.image_rows.specs.Rows.{statement_ok, follows, starts_well, is_below};

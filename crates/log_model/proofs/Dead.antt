@@ -1,5 +1,5 @@
 -- What holds while power is off, and that a roll-forward then does what is promised.
-use Rattle.basics.proofs.Kit.{◌≡◌, ap, ◌∙◌, subst, true, false, some, List, ◌++◌, ℕ, suc, ◌+◌, ◌-◌, ◌≤◌, min, ltb, length, arith, ◌⊎◌, inl, inr, ⊎_elim}
+use Rattle.basics.proofs.Kit.{◌≡◌, ap, ◌∙◌, subst, true, false, some, List, ◌++◌, ℕ, suc, ◌+◌, ◌≤◌, min, ltb, length, arith, ◌⊎◌, inl, inr, ⊎_elim}
 use Rattle.basics.specs.Basics.{if◌then◌else◌}
 use Rattle.basics.proofs.Facts.{by}
 use Rattle.basics.proofs.Elements.{leb-false}

@@ -1,10 +1,9 @@
 -- What holds in a life of the image beside the records: every header that may be found stands at its place in them.
-use Rattle.basics.proofs.Kit.{◌≡◌, refl, sym, ap, ◌∙◌, subst, true, false, none, List, [], ◌∷◌, ◌++◌, append-nil, map, ℕ, suc, ◌≤◌, ◌<◌, eqb, arith}
+use Rattle.basics.proofs.Kit.{◌≡◌, refl, sym, ap, ◌∙◌, subst, true, false, List, [], ◌∷◌, ◌++◌, append-nil, map, ℕ, suc, ◌≤◌, ◌<◌, eqb, arith}
 use Rattle.basics.specs.Basics.{if◌then◌else◌, any}
 use Rattle.basics.proofs.Facts.{by, AllOf}
 use Rattle.basics.proofs.Elements.{all_append, all_map, all_mapped, eqb-true}
 use Rattle.block_forms.specs.Tuple.{AllBytes}
-use Rattle.image.specs.Stages.{holds}
 use Rattle.model.specs.State.{Store, Write}
 use Rattle.model.specs.Sight.{rows}
 use Rattle.model.specs.Transactions.{gives}
@@ -17,7 +16,6 @@ use Rattle.model.specs.WellFormed.{WellFormed}
 use Rattle.model.specs.Agree.{Agree}
 use Rattle.model.proofs.Effects.{unless_out, unless_accepted}
 use Rattle.model.proofs.NoStores.{call_leaves}
-use Rattle.model.proofs.Recovery.{found}
 use Rattle.log_records.specs.Records.{LogRecord, mark_of, is_mark}
 use Rattle.log_model.specs.Repeats.{repeat_all}
 use Rattle.log_model.specs.Logged.{mark_for}

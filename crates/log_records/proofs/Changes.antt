@@ -1,5 +1,5 @@
 -- The record of each change: what its part of the log must be, and its bytes.
-use Rattle.basics.proofs.Kit.{◌≡◌, refl, List, ◌++◌, ℕ, ◌+◌, ◌<◌, length, arith}
+use Rattle.basics.proofs.Kit.{◌≡◌, refl, List, ◌++◌, ℕ, ◌<◌, length, arith}
 use Rattle.log_records.specs.Records.{insertedBy, replacedBy, opened_by, committedBy, abortedBy, RecordFits, log_fields, encode_record}
 use Rattle.log_records.specs.Bytes.{short_bytes, place_bytes}
 use Rattle.log_records.specs.Entries.{change_is, entry_as, Small, change_size, ChangePart, ShortPart, TuplePart}

@@ -1,5 +1,5 @@
 -- One reading and one spelling of a record (`decode_encode`, `encode_decode`), and its bytes (`record_bytes_lem`).
-use Rattle.basics.proofs.Kit.{◌≡◌, refl, sym, ap, ◌∙◌, true, some, ◌&&◌, List, [], ◌∷◌, ◌++◌, append-nil, ℕ, ◌+◌, ◌*◌, ◌%◌, ◌<◌, subst, length, take, drop, eqb, arith}
+use Rattle.basics.proofs.Kit.{◌≡◌, refl, sym, ap, ◌∙◌, true, some, ◌&&◌, List, [], ◌∷◌, ◌++◌, append-nil, ℕ, ◌*◌, ◌%◌, ◌<◌, subst, length, take, drop, eqb, arith}
 use Rattle.basics.proofs.Kit.{take-append_seam, take-append-drop, leb-true, le-leb}
 use Rattle.basics.specs.Basics.{if◌then◌else◌}
 use Rattle.basics.proofs.Facts.{by, by-option, never, and_true}

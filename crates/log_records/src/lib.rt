@@ -1,5 +1,7 @@
 // The redo log's records as bytes. A record is written by two stores, each one call lent only its bytes: all behind the first byte, then that byte,
 // which is never zero. So a record that is cut reads as the log's end.
+#![tactic(auto)]
+
 ghost use Rattle.std.specs.Prelude.{◌≡◌, [], ◌∷◌, ◌++◌, ◌+◌, ◌*◌, ◌/◌, ◌%◌, ◌<◌, ◌≤◌, length, drop, get_or};
 ghost use Rattle.basics.specs.Lists.{over};
 ghost use Rattle.block_bits.specs.Bits.{bits_in, field};

@@ -1,5 +1,7 @@
 // The lowest layer of the working memory: numbers in bytes, low byte first, bytes moved and written, columns of numbers searched.
 // It knows nothing of the store's layout but how many bits a slot's number has: every function asks only that its bytes lie inside the memory.
+#![tactic(auto)]
+
 pub mod search;
 
 ghost use Rattle.std.specs.Prelude.{◌≡◌, ◌++◌, ◌+◌, ◌*◌, ◌-◌, ◌%◌, ◌≤◌, length, drop, replicate, cond, ltb};

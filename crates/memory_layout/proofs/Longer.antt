@@ -1,5 +1,5 @@
 -- A memory that holds a store, with any bytes behind it, holds the same store.
-use Rattle.basics.proofs.Kit.{◌≡◌, sym, ap, ◌∙◌, true, some, List, ◌++◌, ℕ, ◌+◌, ◌*◌, ◌-◌, ◌%◌, ◌≤◌, length, length-append, List·getD-append, arith}
+use Rattle.basics.proofs.Kit.{◌≡◌, sym, ap, ◌∙◌, true, some, List, ◌++◌, ℕ, ◌+◌, ◌*◌, ◌%◌, ◌≤◌, length, length-append, List·getD-append, arith}
 use Rattle.basics.specs.Basics.{all}
 use Rattle.basics.specs.Lists.{tab}
 use Rattle.basics.proofs.Tabs.{tab_same}

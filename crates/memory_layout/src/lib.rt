@@ -1,6 +1,8 @@
 // The layout of the working memory: a head of 1,024 bytes, then columns whose places go by the capacity. docs/LAYOUT.md says what
 // stands where. This crate has the test of refusal 4, the head and the lists that stand in it; rows and pages have crates of their own.
 // Each function that changes the memory promises one equation on the flat lists that it holds.
+#![tactic(auto)]
+
 pub mod places;
 mod ranges;
 

@@ -1,6 +1,8 @@
 // The page entries of the working memory: two columns, first rows and blocks, and the ends of the tables in the head. A page's table and
 // how many rows it has are not stored: they follow from the ends and the first rows. docs/LAYOUT.md says what stands where.
 // Each function that changes the memory promises one equation on the flat lists that it holds.
+#![tactic(auto)]
+
 ghost use Rattle.std.specs.Prelude.{◌≡◌, ◌+◌, ◌*◌, ◌≤◌, ◌<◌, length, drop};
 ghost use Rattle.block_forms.specs.Limits.{block_limit};
 ghost use Rattle.basics.specs.Basics.{any, how_many};

@@ -4,7 +4,6 @@ use Rattle.basics.proofs.Kit.{◌≡◌, refl, sym, ap, ◌∙◌, ⊎_elim, Boo
 use Rattle.basics.specs.Basics.{if◌then◌else◌}
 use Rattle.block_forms.specs.Limits.{payload_limit, committed_value, statement_limit, mark_value}
 use Rattle.block_forms.specs.Tuple.{committed, tentative}
-use Rattle.model.specs.State as model
 use Rattle.model.specs.State.{Held}
 use Rattle.model.specs.Rules.{as_committed, with_pending}
 use Rattle.memory_bytes.specs.Bytes.{le2, le4, bytes, bytes2, Apart, Wrote}

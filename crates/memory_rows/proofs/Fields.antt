@@ -12,7 +12,6 @@ use Rattle.memory_bytes.proofs.Bytes.{length_bytes}
 use Rattle.memory_layout.specs.Views.{length_of, pending_by, state_of, slot_place}
 use Rattle.memory_layout.specs.Flat.{flat_of, rows_of, capacity_of, row_in}
 use Rattle.memory_rows.specs.Rows.{is_live_own}
-use Rattle.memory_rows.specs.declared.Pending as code
 use Rattle.memory_rows.specs.Cells.{keeps_owner, slot_at}
 use Rattle.memory_rows.proofs.Access.{owner_is_lem, payload_is}
 

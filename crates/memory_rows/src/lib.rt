@@ -1,5 +1,7 @@
 // The rows of the working memory, in list order as three columns: key, slot with pending operation, state. Number, owner and payload
 // stand in slots that never move while a row lives. docs/LAYOUT.md says what stands where. Above this crate a row has typed values only.
+#![tactic(auto)]
+
 mod places;
 mod shifts;
 mod slots;

@@ -1,7 +1,7 @@
 -- Commit and abort by number, a form between the rules, which go by place, and what becomes of the rows (RowAfter): a plan of operations on tuples by
 -- number, made from the live rows. An operation on a number is the rule's at the number's place (Places). ByPlace shows that on tuples that rise and
 -- have distinct numbers the plan by number is the plan by place.
-use Rattle.basics.proofs.Kit.{◌≡◌, Bool, true, false, ◌&&◌, not, List, [], ◌∷◌, ◌++◌, map, ℕ, suc, eqb}
+use Rattle.basics.proofs.Kit.{◌≡◌, Bool, true, false, ◌&&◌, not, List, [], ◌∷◌, ◌++◌, map, ℕ, eqb}
 use Rattle.basics.specs.Basics.{if◌then◌else◌, any, keep}
 use Rattle.basics.specs.Lists.{first_index}
 use Rattle.image_rows.specs.Rows.{Row, number, is_own, is_at}

@@ -1,7 +1,7 @@
 -- An image's bytes and its view: a block exchanged in the one is exchanged in the other; recovery of bytes is recovery of the view.
 use Rattle.block_forms.specs.Limits.{block_limit, block_size}
-use Rattle.basics.proofs.Kit.{◌≡◌, refl, sym, ap, ◌∙◌, subst, fun_ext, true, false, not, List, [], ◌++◌, ℕ, suc, ◌+◌, ◌*◌, ◌%◌, ◌≤◌, ◌<◌, zero, ◌/◌, ◌-◌, leb, eqb, ltb, length, take, drop}
-use Rattle.basics.proofs.Kit.{length-append, length-take, length-drop, take-append-drop, take_at, drop-drop, take-append-le, drop-append-add, drop-append-le, drop_at, arith}
+use Rattle.basics.proofs.Kit.{◌≡◌, sym, ap, ◌∙◌, subst, fun_ext, true, false, not, List, [], ◌++◌, ℕ, suc, ◌+◌, ◌*◌, ◌%◌, ◌≤◌, ◌<◌, ◌/◌, ◌-◌, leb, eqb, ltb, length, take, drop}
+use Rattle.basics.proofs.Kit.{length-append, length-take, length-drop, take-append-drop, take_at, drop-drop, drop-append-add, drop_at, arith}
 use Rattle.basics.specs.Basics.{if◌then◌else◌, basics}
 use Rattle.basics.proofs.Facts.{by, lie, and_true}
 use Rattle.block_forms.specs.Block.{header, as_header, encode_block}
@@ -11,7 +11,7 @@ use Rattle.block_forms.proofs.Laws.{encode_length, decode_encode, decode_in_rang
 use Rattle.image_rows.specs.Rows.{row_rules}
 use Rattle.image.specs.View.{View, view, block_at, block_count}
 use Rattle.image.specs.Stages.{Stage, refuses, holds, whole_blocks, capacity_limit, directories_for, directory_blocks, unused_numbers, block_ok, is_zero, counts_ok, header_ok, header_test, read_directories}
-use Rattle.image.specs.Stages.{entries_ok, tested_entries, directory_test, StoredPage, read_pages, rows_of_pages, tested_pages, page_test}
+use Rattle.image.specs.Stages.{entries_ok, tested_entries, directory_test, read_pages, rows_of_pages, tested_pages, page_test}
 use Rattle.image.specs.Whole.{header_stage, pages_below, pages_stage}
 use Rattle.model.specs.State.{Store}
 use Rattle.model.specs.Checkpoint.{header_for}

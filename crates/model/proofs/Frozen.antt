@@ -1,6 +1,6 @@
 -- What the running checkpoint will store of the frozen pages, in list order, is not touched by transactions; and each thaw
 -- takes the first of them away.
-use Rattle.basics.proofs.Kit.{◌≡◌, refl, sym, ◌∙◌, some, none, Option, List, [], ◌∷◌, ◌++◌, map, tail, ℕ, ◌-◌}
+use Rattle.basics.proofs.Kit.{◌≡◌, refl, sym, ◌∙◌, some, none, Option, List, [], ◌∷◌, ◌++◌, map, tail, ℕ}
 use Rattle.basics.specs.Basics.{if◌then◌else◌, any, first}
 use Rattle.basics.proofs.Facts.{by, never}
 use Rattle.block_forms.specs.Tuple.{Tuple}

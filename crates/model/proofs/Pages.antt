@@ -1,5 +1,5 @@
 -- A property of pages that every fresh page has, and a frozen page whatever its tuples, is kept by the rules.
-use Rattle.basics.proofs.Kit.{◌≡◌, sym, subst, Bool, true, false, some, none, Option, List, [], ◌∷◌, map, ℕ, ◌-◌}
+use Rattle.basics.proofs.Kit.{◌≡◌, sym, subst, Bool, true, false, some, none, Option, List, [], ◌∷◌, map, ℕ}
 use Rattle.basics.specs.Basics.{if◌then◌else◌, first, any}
 use Rattle.basics.proofs.Facts.{AllOf, by, never}
 use Rattle.model.specs.State.{Page, Held}

@@ -4,7 +4,7 @@ use Rattle.basics.specs.Basics.{if◌then◌else◌, first}
 use Rattle.basics.proofs.Facts.{by, AllOf, by-option}
 use Rattle.block_forms.specs.Limits.{payload_limit, record_space}
 use Rattle.block_forms.specs.Tuple.{Owner, OwnerFits, Fits, AllBytes, Tuple, AllFit, sizes}
-use Rattle.image_rows.specs.Rows.{Row, number, is_own, rows_of}
+use Rattle.image_rows.specs.Rows.{Row, is_own, rows_of}
 use Rattle.image.specs.Stages.{directories_for}
 use Rattle.model.specs.State.{Store, Outcome, Page, Checkpoint, idle, running, Held}
 use Rattle.model.specs.Rules.{is_frozen, shown, is_adding}

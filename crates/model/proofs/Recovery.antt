@@ -1,5 +1,5 @@
 -- Recovery taken apart: what it finds in the header, directory and page blocks, and that it looks at no other block.
-use Rattle.basics.proofs.Kit.{◌≡◌, refl, sym, ap, ◌∙◌, true, some, none, Option, List, [], ◌∷◌, ◌++◌, ℕ, ◌-◌, arith}
+use Rattle.basics.proofs.Kit.{◌≡◌, refl, sym, ap, ◌∙◌, true, some, none, Option, List, [], ◌∷◌, ◌++◌, ℕ, ◌-◌}
 use Rattle.basics.specs.Basics.{if◌then◌else◌, is_in}
 use Rattle.basics.proofs.Facts.{by, AllOf}
 use Rattle.block_forms.specs.Block.{header, as_header}

@@ -1,5 +1,5 @@
 -- Runs of neighbours of one key: on rising tuples a run has all live rows of its key.
-use Rattle.basics.proofs.Kit.{◌≡◌, refl, sym, ap, ◌∙◌, subst, ap₂, Bool, true, false, List, [], ◌∷◌, ◌++◌, append_assoc, append-nil, map, ℕ, suc, ◌+◌, arith}
+use Rattle.basics.proofs.Kit.{◌≡◌, refl, sym, ap, ◌∙◌, subst, ap₂, Bool, true, false, List, [], ◌∷◌, ◌++◌, append_assoc, append-nil, map, ℕ, suc, arith}
 use Rattle.basics.specs.Basics.{if◌then◌else◌, keep}
 use Rattle.basics.proofs.Lists.{map_append}
 use Rattle.basics.proofs.Facts.{by, lie, AllOf}

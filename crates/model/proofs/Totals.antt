@@ -1,5 +1,5 @@
 -- A total over the pages, to which a fresh page adds nothing and a frozen page the same whatever its tuples, is not raised by the rules.
-use Rattle.basics.proofs.Kit.{◌≡◌, Bool, true, false, some, none, Option, List, [], ◌∷◌, map, ℕ, ◌+◌, ◌≤◌, ◌-◌, arith}
+use Rattle.basics.proofs.Kit.{◌≡◌, Bool, true, false, some, none, Option, List, [], ◌∷◌, map, ℕ, ◌+◌, ◌≤◌, arith}
 use Rattle.basics.specs.Basics.{if◌then◌else◌, sum, any}
 use Rattle.basics.proofs.Facts.{by}
 use Rattle.basics.proofs.Elements.{sum_append}

@@ -1,5 +1,5 @@
 -- The state of a store: tuples on pages, open transactions, blocks in use, a running checkpoint; and what a call gives.
-use Rattle.std.specs.Prelude.{ℕ, Bool, List, []}
+use Rattle.std.specs.Prelude.{ℕ, Bool, List}
 use Rattle.block_forms.specs.Tuple.{Tuple}
 use Rattle.block_forms.specs.Block.{Block, encode_block}
 

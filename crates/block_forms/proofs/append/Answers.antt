@@ -1,5 +1,5 @@
 -- `block_forms::append` meets its contract: the head's bytes, the owner's word if there is one and the payload stand behind each other (`appends`).
-use Rattle.basics.proofs.Kit.{◌≡◌, List, ℕ, length, rules, arith}
+use Rattle.basics.proofs.Kit.{◌≡◌, List, ℕ, length, arith}
 use Rattle.basics.specs.Basics.{if◌then◌else◌}
 use Rattle.block_forms.specs.Bytes.{payload_in}
 use Rattle.block_forms.proofs.Stores.{appended_tentative, appended_committed, size_tentative, size_committed, size_nine}

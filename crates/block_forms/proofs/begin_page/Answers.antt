@@ -1,5 +1,5 @@
 -- `block_forms::begin_page` meets its contract: the head's eight bytes over zeros are a page without records yet (`part_start`).
-use Rattle.basics.proofs.Kit.{◌∙◌, ap, List, ℕ, rules, arith}
+use Rattle.basics.proofs.Kit.{◌∙◌, ap, List, ℕ, arith}
 use Rattle.basics.specs.Lists.{over}
 use Rattle.block_forms.specs.Bytes.{page_head}
 use Rattle.block_forms.proofs.Stores.{put_head}

@@ -1,6 +1,5 @@
 -- `block_forms::copy` meets its contract. The invariant: the first i bytes are over those of the block from `at` on.
-use Rattle.basics.proofs.Kit.{◌≡◌, refl, sym, ◌∙◌, ◌≤◌, ◌-◌, length, take, drop, length-set, arith}
-use Rattle.basics.specs.Lists.{over}
+use Rattle.basics.proofs.Kit.{◌≡◌, refl, sym, ◌∙◌, length-set, arith}
 use Rattle.basics.proofs.Overs.{over_nil}
 use Rattle.basics.proofs.Overs.{copy_iteration}
 use Rattle.block_forms.proofs.copy.Goals as goal

@@ -1,7 +1,5 @@
-use Rattle.basics.proofs.Kit.{◌≡◌, refl, sym, ◌∙◌, ◌≤◌, ◌-◌, length, take, drop, length-set, arith}
+use Rattle.basics.proofs.Kit.{◌≡◌, ◌≤◌, ◌-◌, length, take, drop}
 use Rattle.basics.specs.Lists.{over}
-use Rattle.basics.proofs.Overs.{over_nil}
-use Rattle.basics.proofs.Overs.{copy_iteration}
 use Rattle.block_forms.proofs.copy.Given as goal
 
 abbrev pub invariant-loop-i : goal.invariant-loop-i

@@ -1,5 +1,5 @@
 -- `block_forms::copy_out` meets its contract: what is copied is as long as what is lent (`copied_whole`).
-use Rattle.basics.proofs.Kit.{rules, arith}
+use Rattle.basics.proofs.Kit.{arith}
 use Rattle.basics.proofs.Overs.{copied_whole}
 use Rattle.block_forms.specs.Limits.{block_size}
 use Rattle.block_forms.proofs.copy_out.Goals as goal

@@ -1,7 +1,6 @@
 -- `block_forms::flags_of` meets its contract: for each case of committed and mark, the sum of the bits and of the length.
-use Rattle.basics.proofs.Kit.{◌≡◌, ap, ⊎_elim, ◌+◌, ◌*◌, rules, arith}
+use Rattle.basics.proofs.Kit.{ap, arith}
 use Rattle.basics.specs.Basics.{one_if}
-use Rattle.block_forms.specs.Limits.{mark_value}
 use Rattle.block_forms.specs.Block.{committed_bit}
 use Rattle.block_forms.specs.Bytes.{owner_is, flags_of}
 use Rattle.block_forms.specs.declared.Owner.{Owner}

@@ -1,5 +1,5 @@
 -- `block_forms::put1` meets its contract: one byte set is one byte put over (`set_over`).
-use Rattle.basics.proofs.Kit.{rules, arith}
+use Rattle.basics.proofs.Kit.{arith}
 use Rattle.basics.proofs.Overs.{set_over}
 use Rattle.block_forms.proofs.put1.Goals as goal
 

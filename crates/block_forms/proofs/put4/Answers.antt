@@ -1,5 +1,5 @@
 -- `block_forms::put4` meets its contract: four bytes set in turn are the number's four bytes put over (`put_four`).
-use Rattle.basics.proofs.Kit.{length-set, rules, arith}
+use Rattle.basics.proofs.Kit.{length-set, arith}
 use Rattle.block_forms.specs.Numbers.{be4}
 use Rattle.basics.proofs.Overs.{put_four}
 use Rattle.block_forms.proofs.put4.Goals as goal

@@ -1,9 +1,7 @@
 -- `block_forms::spell_directory` meets its contract. The invariant: the block's bits are those of the head and the first i entries, then zeros (`dir_bits`).
-use Rattle.basics.proofs.Kit.{◌≡◌, ap, ℕ, ◌≤◌, ◌<◌, ◌-◌, length, take, get_or, arith}
+use Rattle.basics.proofs.Kit.{◌≡◌, ap, arith}
 use Rattle.block_bits.specs.Bits.{bits_in}
-use Rattle.block_forms.specs.Limits.{entries_per_block, block_size}
-use Rattle.block_forms.specs.Spell.{padded}
-use Rattle.block_forms.proofs.Entries.{dir_bits, head_filled, entry_filled, dir_done}
+use Rattle.block_forms.proofs.Entries.{head_filled, entry_filled, dir_done}
 use Rattle.block_forms.proofs.spell_directory.Goals as goal
 
 pub loop-i-init : goal.loop-i-init

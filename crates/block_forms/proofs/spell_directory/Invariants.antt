@@ -1,8 +1,8 @@
-use Rattle.basics.proofs.Kit.{◌≡◌, ap, ℕ, ◌≤◌, ◌<◌, ◌-◌, length, take, get_or, arith}
+use Rattle.basics.proofs.Kit.{◌≡◌, ℕ, ◌≤◌, ◌<◌, ◌-◌, length, take, get_or}
 use Rattle.block_bits.specs.Bits.{bits_in}
-use Rattle.block_forms.specs.Limits.{entries_per_block, block_size}
+use Rattle.block_forms.specs.Limits.{block_size}
 use Rattle.block_forms.specs.Spell.{padded}
-use Rattle.block_forms.proofs.Entries.{dir_bits, head_filled, entry_filled, dir_done}
+use Rattle.block_forms.proofs.Entries.{dir_bits}
 use Rattle.block_forms.proofs.spell_directory.Given as goal
 
 abbrev pub invariant-loop-i : goal.invariant-loop-i

@@ -1,5 +1,5 @@
 -- `block_forms::spell_header` meets its contract: the fields put into a block of zeros are the block that they spell (`whole_block`).
-use Rattle.basics.proofs.Kit.{refl, rules, arith}
+use Rattle.basics.proofs.Kit.{refl, arith}
 use Rattle.block_forms.specs.Block.{header_fields, encode_block}
 use Rattle.block_forms.proofs.Spelled.{whole_block}
 use Rattle.block_forms.proofs.spell_header.Goals as goal

@@ -1,5 +1,5 @@
 -- `block_forms::word_of` meets its contract: a committed owner has the word 0, a tentative one its two numbers side by side.
-use Rattle.basics.proofs.Kit.{sym, ap, subst, rules, arith}
+use Rattle.basics.proofs.Kit.{sym, ap, subst, arith}
 use Rattle.block_forms.specs.Tuple.{OwnerFits}
 use Rattle.block_forms.specs.Bytes.{owner_is, owner_word}
 use Rattle.block_forms.specs.declared.Owner.{Owner}

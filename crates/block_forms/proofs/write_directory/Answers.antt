@@ -1,5 +1,5 @@
 -- `block_forms::write_directory` meets its contract: the block is spelled in zeros and copied out whole.
-use Rattle.basics.proofs.Kit.{ap, ◌∙◌, List, ℕ, length, take_all, rules, arith}
+use Rattle.basics.proofs.Kit.{ap, ◌∙◌, List, ℕ, length, take_all, arith}
 use Rattle.block_forms.specs.Block.{directory, encode_block}
 use Rattle.block_forms.proofs.write_directory.Goals as goal
 

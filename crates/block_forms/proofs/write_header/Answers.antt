@@ -1,5 +1,5 @@
 -- `block_forms::write_header` meets its contract: the block is spelled in zeros and copied out whole.
-use Rattle.basics.proofs.Kit.{◌∙◌, rules}
+use Rattle.basics.proofs.Kit.{◌∙◌}
 use Rattle.block_forms.proofs.write_header.Goals as goal
 
 pub returns : goal.returns

@@ -1,5 +1,5 @@
 -- `block_reader::get32` meets its contract, by the definition of four bytes as a number.
-use Rattle.basics.proofs.Kit.{◌^◌, ◌≤◌, pow_mono, rules, arith}
+use Rattle.basics.proofs.Kit.{◌^◌, ◌≤◌, pow_mono, arith}
 use Rattle.block_reader.proofs.get32.Goals as goal
 
 pub overflow_cast-result : goal.overflow_cast-result

@@ -1,6 +1,5 @@
 -- `block_reader::get_header` meets its contract: each field is read at its own bits.
 use Rattle.block_forms.specs.Decode.{read_header}
-use Rattle.basics.proofs.Kit.{rules}
 use Rattle.block_reader.proofs.get_header.Goals as goal
 
 pub returns : goal.returns

@@ -1,5 +1,5 @@
 -- `block_reader::known_page` meets its contract: of a block that is a page the head says table and count (`known`).
-use Rattle.basics.proofs.Kit.{sym, ◌∙◌, rules}
+use Rattle.basics.proofs.Kit.{sym, ◌∙◌}
 use Rattle.block_forms.specs.Decode.{page_table, page_count, page_level}
 use Rattle.block_reader.specs.declared.Reading.TheVariants.{IsPage}
 use Rattle.block_reader.proofs.Known.{known}

@@ -1,5 +1,5 @@
 -- `block_reader::read_block` meets its contract: the kind decides which of the three is read; any other kind is malformed (`reads_other`).
-use Rattle.basics.proofs.Kit.{sym, ap, ◌∙◌, rules, arith}
+use Rattle.basics.proofs.Kit.{sym, ap, ◌∙◌, arith}
 use Rattle.block_reader.specs.Answers.{reading}
 use Rattle.block_reader.proofs.Answering.{kind_header, kind_page, kind_directory, reads_other}
 use Rattle.block_reader.proofs.read_block.Goals as goal

@@ -1,5 +1,5 @@
 -- `block_reader::read_directory` meets its contract: the entries that were read spell these very bytes, or the block is malformed (`directory_yes`, `directory_no`).
-use Rattle.basics.proofs.Kit.{◌≡◌, refl, sym, ◌∙◌, List, ℕ, length, take, length-take, rules, arith}
+use Rattle.basics.proofs.Kit.{◌≡◌, refl, sym, ◌∙◌, List, ℕ, length, take, length-take, arith}
 use Rattle.block_forms.specs.Limits.{entries_per_block}
 use Rattle.block_reader.proofs.Answering.{directory_many, directory_yes, directory_no}
 use Rattle.block_reader.proofs.read_directory.Goals as goal

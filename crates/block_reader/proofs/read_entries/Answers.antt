@@ -1,6 +1,5 @@
 -- `block_reader::read_entries` meets its contract. The invariant: the first i entries are read.
-use Rattle.basics.proofs.Kit.{◌≡◌, refl, ◌≤◌, ◌-◌, length, take, length-set, arith}
-use Rattle.block_forms.specs.Limits.{entries_per_block}
+use Rattle.basics.proofs.Kit.{◌≡◌, refl, length-set, arith}
 use Rattle.block_forms.specs.Decode.{read_entries}
 use Rattle.block_reader.proofs.Entries.{entries_iteration}
 use Rattle.block_reader.proofs.read_entries.Goals as goal

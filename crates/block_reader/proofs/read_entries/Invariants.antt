@@ -1,7 +1,6 @@
-use Rattle.basics.proofs.Kit.{◌≡◌, refl, ◌≤◌, ◌-◌, length, take, length-set, arith}
+use Rattle.basics.proofs.Kit.{◌≡◌, ◌≤◌, ◌-◌, length, take}
 use Rattle.block_forms.specs.Limits.{entries_per_block}
 use Rattle.block_forms.specs.Decode.{read_entries}
-use Rattle.block_reader.proofs.Entries.{entries_iteration}
 use Rattle.block_reader.proofs.read_entries.Given as goal
 
 abbrev pub invariant-loop-i : goal.invariant-loop-i

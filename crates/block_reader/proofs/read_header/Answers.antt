@@ -1,5 +1,5 @@
 -- `block_reader::read_header` meets its contract: the fields that were read spell these very bytes, or the block is malformed (`header_yes`, `header_no`).
-use Rattle.basics.proofs.Kit.{sym, ap, ◌∙◌, List, ℕ, rules}
+use Rattle.basics.proofs.Kit.{sym, ap, ◌∙◌, List, ℕ}
 use Rattle.block_forms.specs.Numbers.{same}
 use Rattle.block_reader.proofs.Answering.{header_yes, header_no}
 use Rattle.block_reader.proofs.read_header.Goals as goal

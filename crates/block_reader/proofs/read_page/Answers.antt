@@ -1,11 +1,11 @@
 -- `block_reader::read_page` meets its contract. The invariant: the page is built again from the records read so far (`Again`); at the end the two blocks are compared.
 use Rattle.block_forms.specs.Limits.{block_size}
-use Rattle.basics.proofs.Kit.{◌≡◌, refl, sym, ap, ◌∙◌, List, ℕ, ◌-◌, length, arith}
+use Rattle.basics.proofs.Kit.{◌≡◌, refl, sym, ap, ◌∙◌, List, ℕ, length, arith}
 use Rattle.block_forms.specs.Block.{Block, page, encode_block}
 use Rattle.block_forms.specs.Tuple.{AllBytes}
 use Rattle.block_forms.specs.Numbers.{same}
 use Rattle.block_reader.proofs.Answering.{page_none, page_yes, page_no}
-use Rattle.block_reader.proofs.Again.{Again, again_start, again_length, again_iteration, again_spells, again_other}
+use Rattle.block_reader.proofs.Again.{again_start, again_length, again_iteration, again_spells, again_other}
 use Rattle.block_reader.proofs.Walk.{passed_bad, passed_end}
 use Rattle.block_reader.proofs.Records.{Found-is, found_is, found_appends}
 use Rattle.block_forms.proofs.Spelled.{all_bytes}

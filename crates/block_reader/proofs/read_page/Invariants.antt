@@ -1,13 +1,6 @@
 use Rattle.block_forms.specs.Limits.{block_size}
-use Rattle.basics.proofs.Kit.{◌≡◌, refl, sym, ap, ◌∙◌, List, ℕ, ◌-◌, length, arith}
-use Rattle.block_forms.specs.Block.{Block, page, encode_block}
-use Rattle.block_forms.specs.Tuple.{AllBytes}
-use Rattle.block_forms.specs.Numbers.{same}
-use Rattle.block_reader.proofs.Answering.{page_none, page_yes, page_no}
-use Rattle.block_reader.proofs.Again.{Again, again_start, again_length, again_iteration, again_spells, again_other}
-use Rattle.block_reader.proofs.Walk.{passed_bad, passed_end}
-use Rattle.block_reader.proofs.Records.{Found-is, found_is, found_appends}
-use Rattle.block_forms.proofs.Spelled.{all_bytes}
+use Rattle.basics.proofs.Kit.{◌≡◌, ◌-◌, length}
+use Rattle.block_reader.proofs.Again.{Again}
 use Rattle.block_reader.proofs.read_page.Given as goal
 
 abbrev pub invariant-loop-i : goal.invariant-loop-i

@@ -1,7 +1,5 @@
 -- `block_reader::same_block` meets its contract. The invariant: the blocks are equal if the bytes passed are and those left are.
-use Rattle.block_forms.specs.Limits.{block_size}
-use Rattle.basics.proofs.Kit.{◌≡◌, refl, ◌&&◌, ◌≤◌, ◌-◌, drop, arith}
-use Rattle.block_forms.specs.Numbers.{same}
+use Rattle.basics.proofs.Kit.{refl, arith}
 use Rattle.block_reader.proofs.Same.{same_iteration, same_end}
 use Rattle.block_reader.proofs.same_block.Goals as goal
 

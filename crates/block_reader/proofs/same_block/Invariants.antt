@@ -1,7 +1,6 @@
 use Rattle.block_forms.specs.Limits.{block_size}
-use Rattle.basics.proofs.Kit.{◌≡◌, refl, ◌&&◌, ◌≤◌, ◌-◌, drop, arith}
+use Rattle.basics.proofs.Kit.{◌≡◌, ◌&&◌, ◌≤◌, ◌-◌, drop}
 use Rattle.block_forms.specs.Numbers.{same}
-use Rattle.block_reader.proofs.Same.{same_iteration, same_end}
 use Rattle.block_reader.proofs.same_block.Given as goal
 
 abbrev pub invariant-loop-i : goal.invariant-loop-i

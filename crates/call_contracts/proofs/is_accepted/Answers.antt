@@ -1,5 +1,5 @@
 -- `call_contracts::is_accepted` meets its contract, answer by answer.
-use Rattle.basics.proofs.Kit.{sym, ap, rules}
+use Rattle.basics.proofs.Kit.{sym, ap}
 use Rattle.call_contracts.specs.Shape.{is_accepted}
 use Rattle.call_contracts.proofs.is_accepted.Goals as goal
 

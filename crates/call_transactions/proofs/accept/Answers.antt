@@ -1,5 +1,4 @@
 -- `call_transactions::accept` meets its contract: the counters go up, then the tuple is placed (`accepted`).
-use Rattle.basics.proofs.Kit.{rules}
 use Rattle.memory_layout.proofs.Laws.{holds_room}
 use Rattle.call_transactions.proofs.Writing.{writer_at, place_at, accepted}
 use Rattle.call_transactions.proofs.accept.Goals as goal

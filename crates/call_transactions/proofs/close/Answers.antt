@@ -1,8 +1,7 @@
 -- `call_transactions::close` meets its contract. The invariant (`Closed`): only the list of open transactions has changed, by entries of this one.
-use Rattle.basics.proofs.Kit.{◌≡◌, refl, ◌∙◌, ◌<◌, length, arith}
+use Rattle.basics.proofs.Kit.{refl, ◌∙◌, ◌<◌, length, arith}
 use Rattle.memory_layout.specs.Flat.{flat_of}
-use Rattle.memory_layout.specs.Opens.{find_open}
-use Rattle.call_transactions.proofs.Closing.{Closed, closed_start, closed_out, closed_end, removed_count}
+use Rattle.call_transactions.proofs.Closing.{closed_start, closed_out, closed_end, removed_count}
 use Rattle.call_transactions.proofs.close.Goals as goal
 
 pub open_count-n-requires : goal.open_count-n-requires

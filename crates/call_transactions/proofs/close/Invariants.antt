@@ -1,7 +1,7 @@
-use Rattle.basics.proofs.Kit.{◌≡◌, refl, ◌∙◌, ◌<◌, length, arith}
+use Rattle.basics.proofs.Kit.{◌≡◌, length}
 use Rattle.memory_layout.specs.Flat.{flat_of}
 use Rattle.memory_layout.specs.Opens.{find_open}
-use Rattle.call_transactions.proofs.Closing.{Closed, closed_start, closed_out, closed_end, removed_count}
+use Rattle.call_transactions.proofs.Closing.{Closed}
 use Rattle.call_transactions.proofs.close.Given as goal
 
 abbrev pub invariant-loop-i : goal.invariant-loop-i

@@ -1,5 +1,5 @@
 -- `call_transactions::count_write` meets its contract: the head's next number and the entry, one after the other (`counted`).
-use Rattle.basics.proofs.Kit.{◌≡◌, sym, ap, ◌∙◌, rules, arith}
+use Rattle.basics.proofs.Kit.{◌≡◌, sym, ap, ◌∙◌, arith}
 use Rattle.memory_layout.specs.declared.Head.{Head}
 use Rattle.model.specs.Transactions.{one_more}
 use Rattle.call_transactions.proofs.Writing.{next_replaces, same_opens, counted}

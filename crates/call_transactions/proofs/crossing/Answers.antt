@@ -1,5 +1,5 @@
 -- `call_transactions::crossing` meets its contract: one case for each test (`cross_10`, `cross_25`, `cross-21`), and the keys copied (`cross-done`).
-use Rattle.basics.proofs.Kit.{◌≡◌, ◌∙◌, true, List, ℕ, length, rules, arith}
+use Rattle.basics.proofs.Kit.{◌≡◌, ◌∙◌, true, List, ℕ, length, arith}
 use Rattle.model.specs.Transactions.{not_open}
 use Rattle.model.specs.Crossing.{crossing_call}
 use Rattle.memory_layout.specs.Flat.{flat_of}
@@ -7,7 +7,6 @@ use Rattle.memory_layout.specs.Store.{holds_store, store_of}
 use Rattle.call_contracts.proofs.Answering.{replies_refused}
 use Rattle.call_transactions.proofs.Intervals.{cross_after, cross_tests, cross_10, cross_25, cross_on, replies_same}
 use Rattle.call_transactions.proofs.Refusing.{passed_held, call_after, replies_stopped, open_numbered}
-use borrow.Enum.Refused.{opened}
 use Rattle.call_transactions.proofs.crossing.Goals as goal
 
 pub returns-then-v-ne0 : goal.returns-then-v-ne0

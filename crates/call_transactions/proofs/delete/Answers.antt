@@ -1,5 +1,5 @@
 -- `call_transactions::delete` meets its contract: a write of a mark with empty payload (`delete_is`).
-use Rattle.basics.proofs.Kit.{rules, arith}
+use Rattle.basics.proofs.Kit.{arith}
 use Rattle.call_transactions.proofs.Called.{delete_is}
 use Rattle.call_transactions.proofs.delete.Goals as goal
 

@@ -1,5 +1,4 @@
 -- `call_transactions::end_if` meets its contract: a transaction that is not open by `end_refused`; else the pages are those of `close_rows` and the list that of `close` (`end_done`).
-use Rattle.basics.proofs.Kit.{not-true, not-false, rules}
 use Rattle.call_contracts.proofs.Answering.{room_refused, room_kept}
 use Rattle.call_transactions.specs.Calls.{end_call}
 use Rattle.model.specs.Transactions.{not_open}

@@ -1,5 +1,5 @@
 -- `call_transactions::list` meets its contract: the numbers, sorted, as reply (`list_reply`).
-use Rattle.basics.proofs.Kit.{◌≡◌, sym, ap, ◌∙◌, true, List, ◌++◌, ℕ, ◌*◌, length, drop, not-true, not-false, rules, arith}
+use Rattle.basics.proofs.Kit.{◌≡◌, sym, ap, ◌∙◌, true, List, ◌++◌, ℕ, ◌*◌, length, drop, arith}
 use Rattle.basics.specs.Basics.{sorted}
 use Rattle.basics.proofs.Sorted.{length_sorted}
 use Rattle.model.specs.Transactions.{open_numbers, replied, listing, list_call}

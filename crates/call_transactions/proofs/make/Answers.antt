@@ -1,6 +1,6 @@
 -- `call_transactions::make` meets its contract: refused as `make_refusal` says, or header and memory are those of a fresh store (`made_done`).
 use Rattle.block_forms.specs.Limits.{block_size}
-use Rattle.basics.proofs.Kit.{refl, ℕ, ◌/◌, length, rules, arith}
+use Rattle.basics.proofs.Kit.{refl, ℕ, ◌/◌, length, arith}
 use Rattle.model.specs.Recover.{fresh_store}
 use Rattle.call_transactions.proofs.Making.{Fits, made_refused, made_done, make_refused, make_fits, make_accepts, image_made}
 use Rattle.call_transactions.proofs.make.Goals as goal

@@ -1,6 +1,6 @@
 -- `call_transactions::make_refusal` meets its contract: one case for each way in which image, capacity or memory does not fit, and one for none.
 use Rattle.block_forms.specs.Limits.{block_size}
-use Rattle.basics.proofs.Kit.{◌/◌, rules, arith}
+use Rattle.basics.proofs.Kit.{◌/◌, arith}
 use Rattle.memory_layout.specs.Store.{FreshFits}
 use Rattle.call_transactions.proofs.Making.{make_odd, make_few, make_many, make_none, make_large, make_short, refusal_given, refusal_zero}
 use Rattle.call_transactions.proofs.make_refusal.Goals as goal

@@ -1,5 +1,5 @@
 -- `call_transactions::next_row` meets its contract: its number is the head's next one, its owner the open transaction.
-use Rattle.basics.proofs.Kit.{refl, ap, rules}
+use Rattle.basics.proofs.Kit.{refl, ap}
 use Rattle.block_forms.specs.Tuple.{tentative}
 use Rattle.model.specs.State.{Active}
 use Rattle.memory_layout.specs.declared.Head.{Head}

@@ -1,5 +1,5 @@
 -- `call_transactions::not_open` meets its contract: one case for each test (`stop_6`, `stop_7`), and none (`none_7`).
-use Rattle.basics.proofs.Kit.{◌≡◌, sym, ◌∙◌, true, not-true, not-false, rules, arith}
+use Rattle.basics.proofs.Kit.{◌≡◌, sym, ◌∙◌, true, arith}
 use Rattle.model.specs.Transactions.{not_open}
 use Rattle.memory_layout.specs.Flat.{flat_of}
 use Rattle.memory_layout.specs.Store.{holds_store}

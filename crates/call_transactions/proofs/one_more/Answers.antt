@@ -1,5 +1,5 @@
 -- `call_transactions::one_more` meets its contract: below the limit one more (`more_one`), at it the same (`more_full`).
-use Rattle.basics.proofs.Kit.{rules, arith}
+use Rattle.basics.proofs.Kit.{arith}
 use Rattle.call_transactions.proofs.Writing.{more_one, more_full}
 use Rattle.call_transactions.proofs.one_more.Goals as goal
 

@@ -1,8 +1,7 @@
 -- `call_transactions::open_if` meets its contract: one case for each test (`open_6` to `open_9`), and the entry pushed (`open_done`).
-use Rattle.basics.proofs.Kit.{◌≡◌, sym, ◌∙◌, true, ◌≤◌, ◌<◌, length, not-true, not-false, rules, arith}
+use Rattle.basics.proofs.Kit.{◌≡◌, sym, ◌∙◌, true, arith}
 use Rattle.model.specs.Transactions.{open_call}
-use Rattle.memory_layout.specs.Flat.{Flat, flat_of}
-use Rattle.memory_layout.specs.Opens.{find_open}
+use Rattle.memory_layout.specs.Flat.{flat_of}
 use Rattle.memory_layout.specs.Store.{holds_store}
 use Rattle.memory_layout.proofs.Laws.{holds_room}
 use Rattle.call_contracts.proofs.Answering.{answers_4, answers_refused, answers_done, room_refused, room_kept, no_room_done}

@@ -1,5 +1,5 @@
 -- `call_transactions::read` meets its contract: one case for each test (`read_10`, `read_14`), and then the payload as reply (`read_at`).
-use Rattle.basics.proofs.Kit.{◌≡◌, ap, ◌∙◌, true, List, ◌++◌, ℕ, length, drop, rules, arith}
+use Rattle.basics.proofs.Kit.{◌≡◌, ap, ◌∙◌, true, List, ◌++◌, ℕ, length, drop, arith}
 use Rattle.model.specs.Transactions.{not_open, read_call}
 use Rattle.memory_layout.specs.Flat.{flat_of, row_in}
 use Rattle.memory_layout.specs.Store.{holds_store, store_of}
@@ -7,7 +7,6 @@ use Rattle.memory_layout.proofs.Laws.{holds_room}
 use Rattle.call_contracts.proofs.Answering.{replies_refused, replies_21, replies_with}
 use Rattle.call_transactions.proofs.Reading.{read_after, read_tests, read_10, read_14, seen_in, read_at}
 use Rattle.call_transactions.proofs.Refusing.{passed_held, call_after, replies_stopped, open_numbered}
-use borrow.Enum.Refused.{opened}
 use Rattle.call_transactions.proofs.read.Goals as goal
 
 pub returns-then-v-ne0 : goal.returns-then-v-ne0

@@ -1,5 +1,5 @@
 -- `call_transactions::write_if` meets its contract: the first test that holds refuses (`call_refused`, `key_refused`), else the tuple is written (`write_done`).
-use Rattle.basics.proofs.Kit.{sym, ◌∙◌, length, not-true, not-false, rules, arith}
+use Rattle.basics.proofs.Kit.{sym, ◌∙◌, length, arith}
 use Rattle.model.specs.Transactions.{write_call}
 use Rattle.call_contracts.proofs.Answering.{room_refused, room_kept}
 use Rattle.call_transactions.proofs.Called.{call_refused, key_refused, write_29, write_done}

@@ -1,5 +1,5 @@
 -- `engine_allocator::blocks_needed` meets its contract: a block for each dirty page and the directory's, and no sum is too large (`needed_is`).
-use Rattle.basics.proofs.Kit.{ap, rules, arith}
+use Rattle.basics.proofs.Kit.{ap, arith}
 use Rattle.image.specs.Stages.{directories_for}
 use Rattle.memory_layout.specs.Flat.{flat_of}
 use Rattle.memory_layout.proofs.Laws.{pages_read, holds_room, sizes}

@@ -1,5 +1,5 @@
 -- `engine_allocator::directories_left` meets its contract: the difference of the two counts, 0 where it would be negative.
-use Rattle.basics.proofs.Kit.{ap, rules, arith}
+use Rattle.basics.proofs.Kit.{ap, arith}
 use Rattle.image.specs.Stages.{directories_for}
 use Rattle.memory_layout.proofs.Laws.{named_read, directories_read, sizes}
 use Rattle.engine_allocator.proofs.directories_left.Goals as goal

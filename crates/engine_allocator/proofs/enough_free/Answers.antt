@@ -1,5 +1,5 @@
 -- `engine_allocator::enough_free` meets its contract. The invariant: k of the blocks passed are free; a search that ends early has found enough (`tally_end`).
-use Rattle.basics.proofs.Kit.{◌≡◌, sym, ap, Bool, not, ℕ, ◌+◌, ◌≤◌, ◌-◌, leb, le-leb, rules, arith}
+use Rattle.basics.proofs.Kit.{◌≡◌, sym, ap, Bool, not, ℕ, ◌-◌, leb, le-leb, arith}
 use Rattle.memory_layout.specs.declared.Head.{Head}
 use Rattle.memory_layout.specs.Flat.{Flat, flat_of}
 use Rattle.memory_layout.specs.Store.{store_of}
@@ -7,7 +7,6 @@ use Rattle.basics.specs.Basics.{how_many, from, one_if}
 use Rattle.basics.proofs.Froms.{tally_iteration, tally_end}
 use Rattle.model.specs.Checkpoint.{free_count}
 use Rattle.engine_allocator.proofs.Tallies.{free_is}
-use Rattle.engine_allocator.proofs.enough_free.Invariants.{Tallied}
 use Rattle.engine_allocator.proofs.enough_free.Goals as goal
 
 -- as many as the head says

@@ -1,11 +1,6 @@
-use Rattle.basics.proofs.Kit.{◌≡◌, sym, ap, Bool, not, ℕ, ◌+◌, ◌≤◌, ◌-◌, leb, le-leb, rules, arith}
-use Rattle.memory_layout.specs.declared.Head.{Head}
+use Rattle.basics.proofs.Kit.{◌≡◌, not, ℕ, ◌+◌, ◌≤◌, ◌-◌}
 use Rattle.memory_layout.specs.Flat.{Flat, flat_of}
-use Rattle.memory_layout.specs.Store.{store_of}
-use Rattle.basics.specs.Basics.{how_many, from, one_if}
-use Rattle.basics.proofs.Froms.{tally_iteration, tally_end}
-use Rattle.model.specs.Checkpoint.{free_count}
-use Rattle.engine_allocator.proofs.Tallies.{free_is}
+use Rattle.basics.specs.Basics.{how_many, from}
 use Rattle.engine_allocator.proofs.enough_free.Given as goal
 
 -- k of the blocks from 1 up to, not including, b are free

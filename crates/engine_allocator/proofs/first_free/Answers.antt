@@ -1,7 +1,6 @@
 -- `engine_allocator::first_free` meets its contract. The invariant: each block passed is in use, so the first free one is found from b on.
-use Rattle.basics.proofs.Kit.{◌≡◌, refl, sym, ◌∙◌, ◌≤◌, ◌-◌, not-true, not-false, arith}
+use Rattle.basics.proofs.Kit.{refl, sym, ◌∙◌, arith}
 use Rattle.memory_layout.specs.Flat.{flat_of}
-use Rattle.engine_allocator.specs.Blocks.{free_from}
 use Rattle.engine_allocator.proofs.Tallies.{free_hit, free_miss, free_end}
 use Rattle.engine_allocator.proofs.first_free.Goals as goal
 

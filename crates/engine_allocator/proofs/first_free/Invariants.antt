@@ -1,7 +1,6 @@
-use Rattle.basics.proofs.Kit.{◌≡◌, refl, sym, ◌∙◌, ◌≤◌, ◌-◌, not-true, not-false, arith}
+use Rattle.basics.proofs.Kit.{◌≡◌, ◌≤◌, ◌-◌}
 use Rattle.memory_layout.specs.Flat.{flat_of}
 use Rattle.engine_allocator.specs.Blocks.{free_from}
-use Rattle.engine_allocator.proofs.Tallies.{free_hit, free_miss, free_end}
 use Rattle.engine_allocator.proofs.first_free.Given as goal
 
 abbrev pub invariant-loop-b : goal.invariant-loop-b

@@ -5,7 +5,7 @@ use Rattle.engine_close.proofs.Next.{none_left, one_aborted, one_closed}
 use Rattle.basics.proofs.Numbers.{less_than}
 use Rattle.memory_layout.specs.Flat.{Room}
 use Rattle.memory_layout.proofs.Laws.{holds_room}
-use Rattle.basics.proofs.Kit.{sym, ◌∙◌, ◌<◌, length, not-true, not-false, rules, arith}
+use Rattle.basics.proofs.Kit.{sym, ◌∙◌, ◌<◌, length, arith}
 use Rattle.engine_close.proofs.close_next.Goals as goal
 
 pub next_own-own-requires : goal.next_own-own-requires

@@ -1,8 +1,7 @@
 -- `engine_close::close_rows` meets its contract. The invariant: what is left to do from row i on gives, on the present pages, what all of it gives on those at entry.
 use Rattle.engine_pages.proofs.Places.{holds_now}
-use Rattle.engine_close.specs.Close.{tagged_of, left_from}
-use Rattle.engine_close.proofs.Next.{Doing, doing_starts, doing_next, all_done}
-use Rattle.basics.proofs.Kit.{◌-◌, length, arith}
+use Rattle.engine_close.proofs.Next.{doing_starts, doing_next, all_done}
+use Rattle.basics.proofs.Kit.{arith}
 use Rattle.memory_layout.proofs.Laws.{holds_room}
 use Rattle.engine_close.proofs.close_rows.Goals as goal
 

@@ -1,8 +1,6 @@
-use Rattle.engine_pages.proofs.Places.{holds_now}
 use Rattle.engine_close.specs.Close.{tagged_of, left_from}
-use Rattle.engine_close.proofs.Next.{Doing, doing_starts, doing_next, all_done}
-use Rattle.basics.proofs.Kit.{◌-◌, length, arith}
-use Rattle.memory_layout.proofs.Laws.{holds_room}
+use Rattle.engine_close.proofs.Next.{Doing}
+use Rattle.basics.proofs.Kit.{◌-◌, length}
 use Rattle.engine_close.proofs.close_rows.Given as goal
 
 abbrev pub invariant-loop-i : goal.invariant-loop-i

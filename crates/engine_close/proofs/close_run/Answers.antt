@@ -4,7 +4,7 @@ use Rattle.engine_close.proofs.Closing.{live_held, run_marked, kept_length, kept
 use Rattle.engine_close.proofs.Memory.{row_is, tagged_length}
 use Rattle.model.specs.State.{Held}
 use Rattle.memory_layout.proofs.Laws.{holds_room}
-use Rattle.basics.proofs.Kit.{sym, ap, ◌∙◌, rules, arith}
+use Rattle.basics.proofs.Kit.{sym, ap, ◌∙◌, arith}
 use Rattle.engine_close.proofs.close_run.Goals as goal
 
 pub mark_at-requires : goal.mark_at-requires

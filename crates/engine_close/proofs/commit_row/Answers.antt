@@ -4,7 +4,6 @@ use Rattle.engine_pages.specs.Pages.{pages_of}
 use Rattle.model.specs.Places.{commit_row}
 use Rattle.engine_close.proofs.Memory.{row_on}
 use Rattle.memory_layout.proofs.Laws.{holds_room}
-use Rattle.basics.proofs.Kit.{rules}
 use Rattle.engine_close.proofs.commit_row.Goals as goal
 
 pub page_near-p-requires : goal.page_near-p-requires

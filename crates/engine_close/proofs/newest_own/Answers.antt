@@ -1,8 +1,8 @@
 -- `engine_close::newest_own` meets its contract. The invariant: no row behind row r, up to row e, is an own row.
 use Rattle.engine_close.specs.Close.{is_own_row, tagged_of}
-use Rattle.engine_close.proofs.Own.{NotLater, own_is, not_later_more}
+use Rattle.engine_close.proofs.Own.{own_is, not_later_more}
 use Rattle.engine_close.proofs.Memory.{tagged_length}
-use Rattle.basics.proofs.Kit.{◌≡◌, sym, ap, ◌∙◌, ◌≤◌, ◌<◌, arith}
+use Rattle.basics.proofs.Kit.{◌≡◌, sym, ap, ◌∙◌, arith}
 use Rattle.engine_close.proofs.newest_own.Goals as goal
 
 pub loop-r-init : goal.loop-r-init

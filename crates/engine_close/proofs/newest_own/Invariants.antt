@@ -1,7 +1,5 @@
-use Rattle.engine_close.specs.Close.{is_own_row, tagged_of}
-use Rattle.engine_close.proofs.Own.{NotLater, own_is, not_later_more}
-use Rattle.engine_close.proofs.Memory.{tagged_length}
-use Rattle.basics.proofs.Kit.{◌≡◌, sym, ap, ◌∙◌, ◌≤◌, ◌<◌, arith}
+use Rattle.engine_close.proofs.Own.{NotLater}
+use Rattle.basics.proofs.Kit.{◌≤◌, ◌<◌}
 use Rattle.engine_close.proofs.newest_own.Given as goal
 
 abbrev pub invariant-loop-r : goal.invariant-loop-r

@@ -1,7 +1,7 @@
 -- `engine_close::next_own` meets its contract. The invariant: no row from row i up to row g is an own row.
-use Rattle.engine_close.proofs.Own.{NotOwn, not_own_then}
+use Rattle.engine_close.proofs.Own.{not_own_then}
 use Rattle.engine_close.proofs.Memory.{few_tagged}
-use Rattle.basics.proofs.Kit.{◌≤◌, ◌-◌, arith}
+use Rattle.basics.proofs.Kit.{arith}
 use Rattle.engine_close.proofs.next_own.Goals as goal
 
 pub row_count-n-requires : goal.row_count-n-requires
@@ -33,9 +33,9 @@ loop-g-smaller c = omega (arith, c.if-r-g.false, c.loop-g-test.true)
 
 pub loop-g-preserved : goal.loop-g-preserved
 loop-g-preserved c = let l = c.loop-g.invariant in let o = c.own_in_group-r.ensures in (
-      omega (arith, l.0, o.low),
-      (omega (arith, o.most, c.loop-g-test.true), not_own_then _ c.requires.0 _ l.1.1 o.passed),
-    )
+  omega (arith, l.0, o.low),
+  (omega (arith, o.most, c.loop-g-test.true), not_own_then _ c.requires.0 _ l.1.1 o.passed),
+)
 
 pub own_in-requires : goal.own_in-requires
 own_in-requires c = (c.requires.0, record { order = c.loop-g.invariant.1.0; inside = omega (arith, c.row_count-n.ensures) })

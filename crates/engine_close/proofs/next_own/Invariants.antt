@@ -1,6 +1,5 @@
-use Rattle.engine_close.proofs.Own.{NotOwn, not_own_then}
-use Rattle.engine_close.proofs.Memory.{few_tagged}
-use Rattle.basics.proofs.Kit.{◌≤◌, ◌-◌, arith}
+use Rattle.engine_close.proofs.Own.{NotOwn}
+use Rattle.basics.proofs.Kit.{◌≤◌, ◌-◌}
 use Rattle.engine_close.proofs.next_own.Given as goal
 
 abbrev pub invariant-loop-g : goal.invariant-loop-g

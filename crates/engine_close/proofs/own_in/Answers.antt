@@ -1,7 +1,7 @@
 -- `engine_close::own_in` meets its contract. The invariant: no row from row i up to row r is an own row.
-use Rattle.engine_close.proofs.Own.{NotOwn, own_is, not_own_more}
+use Rattle.engine_close.proofs.Own.{own_is, not_own_more}
 use Rattle.engine_close.proofs.Memory.{tagged_length}
-use Rattle.basics.proofs.Kit.{sym, ◌∙◌, ◌≤◌, ◌-◌, arith}
+use Rattle.basics.proofs.Kit.{sym, ◌∙◌, arith}
 use Rattle.engine_close.proofs.own_in.Goals as goal
 
 pub loop-r-init : goal.loop-r-init

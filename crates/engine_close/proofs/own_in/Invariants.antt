@@ -1,6 +1,5 @@
-use Rattle.engine_close.proofs.Own.{NotOwn, own_is, not_own_more}
-use Rattle.engine_close.proofs.Memory.{tagged_length}
-use Rattle.basics.proofs.Kit.{sym, ◌∙◌, ◌≤◌, ◌-◌, arith}
+use Rattle.engine_close.proofs.Own.{NotOwn}
+use Rattle.basics.proofs.Kit.{◌≤◌, ◌-◌}
 use Rattle.engine_close.proofs.own_in.Given as goal
 
 abbrev pub invariant-loop-r : goal.invariant-loop-r

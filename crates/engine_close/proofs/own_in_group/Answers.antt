@@ -1,7 +1,7 @@
 -- `engine_close::own_in_group` meets its contract: a group without a tentative row has no own row (`group_not_own`).
 use Rattle.engine_close.proofs.Own.{group_not_own}
 use Rattle.engine_close.proofs.Memory.{tagged_length, few_tagged}
-use Rattle.basics.proofs.Kit.{sym, ◌∙◌, rules, arith}
+use Rattle.basics.proofs.Kit.{sym, ◌∙◌, arith}
 use Rattle.engine_close.proofs.own_in_group.Goals as goal
 
 pub any_tentative-requires : goal.any_tentative-requires

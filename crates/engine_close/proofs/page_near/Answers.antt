@@ -1,5 +1,5 @@
 -- `engine_close::page_near` meets its contract: page `near` is answered only if it has row i, otherwise what `page_of` answers.
-use Rattle.basics.proofs.Kit.{subst, ◌≤◌, ◌<◌, leb-true, ltb-true, rules, arith}
+use Rattle.basics.proofs.Kit.{subst, ◌≤◌, ◌<◌, arith}
 use Rattle.engine_close.proofs.page_near.Goals as goal
 
 pub returns-then-i-start_of : goal.returns-then-i-start_of

@@ -1,6 +1,5 @@
 -- `engine_close::page_of` meets its contract, by that of `memory_pages::page_of`: every row is on one of all pages (`on_pages`).
 use Rattle.engine_close.proofs.Memory.{on_pages}
-use Rattle.basics.proofs.Kit.{rules}
 use Rattle.engine_close.proofs.page_of.Goals as goal
 
 pub page_of-requires : goal.page_of-requires

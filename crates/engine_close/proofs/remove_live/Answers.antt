@@ -2,7 +2,7 @@
 use Rattle.engine_close.proofs.Closing.{live_removed, live_passed}
 use Rattle.engine_close.proofs.Memory.{few_tagged}
 use Rattle.memory_layout.proofs.Laws.{holds_room}
-use Rattle.basics.proofs.Kit.{sym, ◌∙◌, rules, arith}
+use Rattle.basics.proofs.Kit.{sym, ◌∙◌, arith}
 use Rattle.engine_close.proofs.remove_live.Goals as goal
 
 pub is_live-requires : goal.is_live-requires

@@ -5,7 +5,7 @@ use Rattle.engine_pages.specs.Pages.{pages_of}
 use Rattle.engine_close.proofs.Closing.{now_by_store, one_removed}
 use Rattle.engine_close.proofs.Memory.{row_on, few_tagged}
 use Rattle.memory_layout.proofs.Laws.{holds_room}
-use Rattle.basics.proofs.Kit.{rules, arith}
+use Rattle.basics.proofs.Kit.{arith}
 use Rattle.engine_close.proofs.remove_row.Goals as goal
 
 pub row_count-n-requires : goal.row_count-n-requires

@@ -1,6 +1,6 @@
 -- `engine_close::remove_rows` meets its contract. The invariant: still to be removed are the live ones of `left` rows from row r on, as the pages are now.
 use Rattle.engine_pages.proofs.Places.{now_held}
-use Rattle.engine_close.proofs.Closing.{LiveLeft, left_starts, left_there, left_next, left_ends}
+use Rattle.engine_close.proofs.Closing.{left_starts, left_there, left_next, left_ends}
 use Rattle.basics.proofs.Kit.{arith}
 use Rattle.engine_close.proofs.remove_rows.Goals as goal
 

@@ -1,6 +1,4 @@
-use Rattle.engine_pages.proofs.Places.{now_held}
-use Rattle.engine_close.proofs.Closing.{LiveLeft, left_starts, left_there, left_next, left_ends}
-use Rattle.basics.proofs.Kit.{arith}
+use Rattle.engine_close.proofs.Closing.{LiveLeft}
 use Rattle.engine_close.proofs.remove_rows.Given as goal
 
 abbrev pub invariant-loop-left : goal.invariant-loop-left

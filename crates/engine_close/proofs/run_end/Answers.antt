@@ -1,7 +1,7 @@
 -- `engine_close::run_end` meets its contract. The invariant: the rows behind row i, up to row r, have its table and key.
-use Rattle.engine_close.proofs.RunBounds.{Onward, end_high, onward_more, onward_ends, onward_stops}
+use Rattle.engine_close.proofs.RunBounds.{end_high, onward_more, onward_ends, onward_stops}
 use Rattle.engine_close.proofs.Memory.{tagged_length, few_tagged}
-use Rattle.basics.proofs.Kit.{sym, ◌∙◌, ◌≤◌, ◌<◌, ◌-◌, arith}
+use Rattle.basics.proofs.Kit.{sym, ◌∙◌, arith}
 use Rattle.engine_close.proofs.run_end.Goals as goal
 
 pub overflow_add-t : goal.overflow_add-t
@@ -37,13 +37,13 @@ loop-r-smaller c = omega (arith, c.loop-r-test.true)
 
 pub loop-r-preserved : goal.loop-r-preserved
 loop-r-preserved c = let p = c.requires in let l = c.loop-r in (
-      omega (arith, l.invariant.0),
-      (
-        omega (arith, c.loop-r-test.true),
-        onward_more p c.first_row-end.ensures l.invariant.1.1
-            l.invariant.0 c.loop-r-test.true (sym c.key_at.ensures ∙ c.if-key_at-key.false ∙ c.key_at-key.ensures),
-      ),
-    )
+  omega (arith, l.invariant.0),
+  (
+    omega (arith, c.loop-r-test.true),
+    onward_more p c.first_row-end.ensures l.invariant.1.1
+        l.invariant.0 c.loop-r-test.true (sym c.key_at.ensures ∙ c.if-key_at-key.false ∙ c.key_at-key.ensures),
+  ),
+)
 
 pub returns : goal.returns
 returns c = let p = c.requires in let l = c.loop-r in

@@ -1,6 +1,5 @@
-use Rattle.engine_close.proofs.RunBounds.{Onward, end_high, onward_more, onward_ends, onward_stops}
-use Rattle.engine_close.proofs.Memory.{tagged_length, few_tagged}
-use Rattle.basics.proofs.Kit.{sym, ◌∙◌, ◌≤◌, ◌<◌, ◌-◌, arith}
+use Rattle.engine_close.proofs.RunBounds.{Onward}
+use Rattle.basics.proofs.Kit.{◌≤◌, ◌<◌, ◌-◌}
 use Rattle.engine_close.proofs.run_end.Given as goal
 
 abbrev pub invariant-loop-r : goal.invariant-loop-r

@@ -1,7 +1,7 @@
 -- `engine_close::run_start` meets its contract. The invariant: the rows from row r up to row i have the table and key of row i.
-use Rattle.engine_close.proofs.RunBounds.{Back, first_low, back_more, back_ends, back_stops}
+use Rattle.engine_close.proofs.RunBounds.{first_low, back_more, back_ends, back_stops}
 use Rattle.engine_close.proofs.Memory.{tagged_length}
-use Rattle.basics.proofs.Kit.{sym, ◌∙◌, ⊎_elim, ◌≤◌, rules, arith}
+use Rattle.basics.proofs.Kit.{sym, ◌∙◌, ⊎_elim, arith}
 use Rattle.basics.proofs.Tabs.{lt_or_ge}
 use Rattle.engine_close.proofs.run_start.Goals as goal
 
@@ -27,13 +27,13 @@ returns-then-key_at-key c = let l = c.loop-r in
 
 pub loop-r-preserved : goal.loop-r-preserved
 loop-r-preserved c = let l = c.loop-r in (
-      omega arith,
-      (
-        omega arith,
-        back_more c.requires.0 c.first_row.ensures l.invariant.1.1
-            (omega (arith, c.later-low.ensures.second, c.loop-r-test.true)) l.invariant.1.0 (sym c.key_at.ensures ∙ c.if-key_at-key.false ∙ c.key_at-key.ensures),
-      ),
-    )
+  omega arith,
+  (
+    omega arith,
+    back_more c.requires.0 c.first_row.ensures l.invariant.1.1
+        (omega (arith, c.later-low.ensures.second, c.loop-r-test.true)) l.invariant.1.0 (sym c.key_at.ensures ∙ c.if-key_at-key.false ∙ c.key_at-key.ensures),
+  ),
+)
 
 pub returns : goal.returns
 returns c = let l = c.loop-r in let v = c.later-low in

@@ -1,7 +1,7 @@
 -- `engine_crossing::add_run` meets its contract: nothing is seen (`added_unseen`), what is seen does not cross (`added_not`), or its key is put out
 -- (`added_key`).
 use Rattle.engine_crossing.proofs.Adding.{run_inside, added_unseen, added_not, added_key}
-use Rattle.basics.proofs.Kit.{sym, ◌∙◌, not-true, not-false, rules}
+use Rattle.basics.proofs.Kit.{sym, ◌∙◌}
 use Rattle.engine_crossing.proofs.add_run.Goals as goal
 
 pub returns-in_default : goal.returns-in_default

@@ -1,6 +1,5 @@
 -- `engine_crossing::crosses_at` meets its contract: the three tests of a booking (`crosses_is`).
 use Rattle.engine_crossing.proofs.Bookings.{crosses_is}
-use Rattle.basics.proofs.Kit.{rules}
 use Rattle.engine_crossing.proofs.crosses_at.Goals as goal
 
 pub returns : goal.returns

@@ -1,6 +1,6 @@
 -- `engine_crossing::find_crossing` meets its contract. The invariant (`Progress`): rows before row i are done, and those of the table from there up to
 -- row c do not cross.
-use Rattle.engine_crossing.proofs.Progress.{Progress, progress_starts, out_length, key_room, progress_next, progress_ends}
+use Rattle.engine_crossing.proofs.Progress.{progress_starts, out_length, key_room, progress_next, progress_ends}
 use Rattle.engine_crossing.proofs.Window.{high_bounds, table_order, row_of_table, Looked, looked, passed_start, passed_end}
 use Rattle.engine_crossing.proofs.Runs.{one_key}
 use Rattle.engine_close.specs.Close.{RowOfTable}
@@ -8,7 +8,7 @@ use Rattle.engine_close.proofs.Memory.{tagged_length}
 use Rattle.engine_close.proofs.RunBounds.{whole_run}
 use Rattle.memory_layout.specs.Flat.{flat_of, Room}
 use Rattle.memory_layout.proofs.Laws.{holds_room}
-use Rattle.basics.proofs.Kit.{sym, ◌≤◌, ◌-◌, length, rules, arith}
+use Rattle.basics.proofs.Kit.{sym, ◌≤◌, length, arith}
 use Rattle.engine_crossing.proofs.find_crossing.Goals as goal
 
 pub first_row-s-requires : goal.first_row-s-requires

@@ -1,5 +1,5 @@
 -- `engine_crossing::minutes_at` meets its contract: the part that is read is the payload (`part_bytes`).
-use Rattle.basics.proofs.Kit.{◌≡◌, ap, ◌∙◌, ◌+◌, ◌-◌, take, drop, rules, arith}
+use Rattle.basics.proofs.Kit.{◌≡◌, ap, ◌∙◌, ◌+◌, ◌-◌, take, drop, arith}
 use Rattle.calendar.specs.Calendar.{minutes}
 use Rattle.memory_bytes.proofs.Bytes.{part_bytes}
 use Rattle.engine_crossing.proofs.minutes_at.Goals as goal

@@ -1,8 +1,7 @@
 -- `engine_crossing::next_crossing` meets its contract. The invariant: no row from row i up to row r crosses.
-use Rattle.engine_crossing.specs.Crossing.{NoneCross}
 use Rattle.engine_crossing.proofs.Adding.{cross_more}
 use Rattle.memory_layout.specs.Flat.{flat_of}
-use Rattle.basics.proofs.Kit.{◌≡◌, refl, sym, ◌∙◌, ◌≤◌, ◌<◌, ◌-◌, arith}
+use Rattle.basics.proofs.Kit.{refl, sym, ◌∙◌, arith}
 use Rattle.engine_crossing.proofs.next_crossing.Goals as goal
 
 pub loop-r-init : goal.loop-r-init

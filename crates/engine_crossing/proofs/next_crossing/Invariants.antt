@@ -1,7 +1,6 @@
 use Rattle.engine_crossing.specs.Crossing.{NoneCross}
-use Rattle.engine_crossing.proofs.Adding.{cross_more}
 use Rattle.memory_layout.specs.Flat.{flat_of}
-use Rattle.basics.proofs.Kit.{◌≡◌, refl, sym, ◌∙◌, ◌≤◌, ◌<◌, ◌-◌, arith}
+use Rattle.basics.proofs.Kit.{◌≡◌, ◌≤◌, ◌<◌, ◌-◌}
 use Rattle.engine_crossing.proofs.next_crossing.Given as goal
 
 abbrev pub invariant-loop-r : goal.invariant-loop-r

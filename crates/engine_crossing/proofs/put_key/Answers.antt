@@ -1,7 +1,7 @@
 -- `engine_crossing::put_key` meets its contract: four bytes set in turn are the key's four bytes put over (`put_four`).
 use Rattle.basics.proofs.Overs.{put_four}
 use Rattle.model.specs.Crossing.{key_bytes}
-use Rattle.basics.proofs.Kit.{length-set, rules, arith}
+use Rattle.basics.proofs.Kit.{length-set, arith}
 use Rattle.engine_crossing.proofs.put_key.Goals as goal
 
 pub returns : goal.returns

@@ -1,6 +1,5 @@
 -- `engine_crossing::seen_in_run` meets its contract: what is noted of the run's rows tells what is seen of it (`run_shows`, `run_seen`).
 use Rattle.engine_crossing.proofs.Seen.{run_shows, run_seen}
-use Rattle.basics.proofs.Kit.{rules}
 use Rattle.engine_crossing.proofs.seen_in_run.Goals as goal
 
 pub pick-requires : goal.pick-requires

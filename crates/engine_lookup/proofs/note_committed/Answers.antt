@@ -1,6 +1,5 @@
 -- `engine_lookup::note_committed` meets its contract: the first committed version and a later one.
 use Rattle.engine_lookup.proofs.Notes.{first_committed, later_committed}
-use Rattle.basics.proofs.Kit.{rules}
 use Rattle.engine_lookup.proofs.note_committed.Goals as goal
 
 pub returns-then-l-eq0 : goal.returns-then-l-eq0

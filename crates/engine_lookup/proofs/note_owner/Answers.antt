@@ -1,5 +1,5 @@
 -- `engine_lookup::note_owner` meets its contract: one case for each kind of owner.
-use Rattle.basics.proofs.Kit.{sym, ap, ◌∙◌, rules}
+use Rattle.basics.proofs.Kit.{sym, ap, ◌∙◌}
 use Rattle.block_forms.specs.declared.Owner.{Owner}
 use Rattle.block_forms.specs.Bytes.{owner_is}
 use Rattle.engine_lookup.specs.Lookup.{note_owner}

@@ -1,5 +1,5 @@
 -- `engine_lookup::note_row` meets its contract: one case for each pending operation.
-use Rattle.basics.proofs.Kit.{ap, ◌∙◌, rules, arith}
+use Rattle.basics.proofs.Kit.{ap, ◌∙◌, arith}
 use Rattle.block_forms.specs.Tuple as tuples
 use Rattle.memory_layout.specs.Flat.{flat_of, row_in}
 use Rattle.engine_lookup.specs.Lookup.{note_owner}

@@ -1,5 +1,5 @@
 -- `engine_lookup::note_rows` meets its contract. The invariant: the answer is what the rows from i on make of what is noted so far.
-use Rattle.basics.proofs.Kit.{◌≡◌, refl, sym, ap, ◌∙◌, ⊎_elim, ◌+◌, ◌<◌, ◌-◌, arith}
+use Rattle.basics.proofs.Kit.{refl, sym, ap, ◌∙◌, ◌+◌, ◌<◌, ◌-◌, arith}
 use Rattle.memory_layout.specs.Flat.{Flat, flat_of}
 use Rattle.engine_lookup.proofs.Iterations.{along, iteration_here, iteration_on, iteration_end}
 use Rattle.engine_lookup.proofs.note_rows.Goals.{then-key_at-key, else-key_at-key}

@@ -1,6 +1,6 @@
-use Rattle.basics.proofs.Kit.{◌≡◌, refl, sym, ap, ◌∙◌, ⊎_elim, ◌+◌, ◌<◌, ◌-◌, arith}
-use Rattle.memory_layout.specs.Flat.{Flat, flat_of}
-use Rattle.engine_lookup.proofs.Iterations.{along, iteration_here, iteration_on, iteration_end}
+use Rattle.basics.proofs.Kit.{◌≡◌, ◌-◌}
+use Rattle.memory_layout.specs.Flat.{flat_of}
+use Rattle.engine_lookup.proofs.Iterations.{along}
 use Rattle.engine_lookup.proofs.note_rows.Given as goal
 
 abbrev pub invariant-loop-i : goal.invariant-loop-i

@@ -1,6 +1,5 @@
 -- `engine_lookup::note_tentative` meets its contract: an own version and one of another transaction.
 use Rattle.engine_lookup.proofs.Notes.{own_tentative, foreign_tentative}
-use Rattle.basics.proofs.Kit.{rules}
 use Rattle.engine_lookup.proofs.note_tentative.Goals as goal
 
 pub returns-then-own : goal.returns-then-own

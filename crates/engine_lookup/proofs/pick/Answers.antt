@@ -1,5 +1,5 @@
 -- `engine_lookup::pick` meets its contract: one case for each version that may be seen, and two for none.
-use Rattle.basics.proofs.Kit.{refl, rules}
+use Rattle.basics.proofs.Kit.{refl}
 use Rattle.memory_layout.specs.Flat.{flat_of}
 use Rattle.engine_lookup.proofs.Picking.{pick_none, pick_committed, pick_marked, pick_own}
 use Rattle.engine_lookup.proofs.pick.Goals as goal

@@ -1,5 +1,5 @@
 -- `engine_lookup::search_range` meets its contract: the rows before the first and behind the last one with the key note nothing (`range_noted`).
-use Rattle.basics.proofs.Kit.{rules, arith}
+use Rattle.basics.proofs.Kit.{arith}
 use Rattle.memory_layout.specs.Flat.{flat_of}
 use Rattle.memory_bytes.specs.Columns.{equals}
 use Rattle.memory_bytes.proofs.Spans.{first_in, found_covers}

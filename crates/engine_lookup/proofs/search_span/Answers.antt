@@ -1,7 +1,6 @@
 -- `engine_lookup::search_span` meets its contract: the rows outside the span have other keys and note nothing (`range_noted`).
 use Rattle.memory_layout.specs.Flat.{flat_of}
 use Rattle.engine_lookup.proofs.Iterations.{range_noted}
-use Rattle.basics.proofs.Kit.{rules}
 use Rattle.engine_lookup.proofs.search_span.Goals as goal
 
 pub returns : goal.returns

@@ -2,7 +2,6 @@
 use Rattle.memory_layout.specs.Flat.{flat_of}
 use Rattle.memory_layout.proofs.Laws.{holds_room}
 use Rattle.engine_lookup.proofs.Picking.{visibility_sees}
-use Rattle.basics.proofs.Kit.{rules}
 use Rattle.engine_lookup.proofs.seen_by.Goals as goal
 
 pub pick-requires : goal.pick-requires

@@ -1,6 +1,5 @@
 -- `engine_lookup::table_rows` meets its contract: the rows between the starts of two tables (`table_range`).
 use Rattle.engine_lookup.proofs.Tables.{table_range}
-use Rattle.basics.proofs.Kit.{rules}
 use Rattle.engine_lookup.proofs.table_rows.Goals as goal
 
 pub returns : goal.returns

@@ -1,4 +1,3 @@
-use Rattle.std.proofs.Common.{ℕ}
 use Rattle.engine_pages.specs.Pages.{entry_of}
 use Rattle.engine_pages.proofs.+split.Given as goal
 

@@ -1,7 +1,6 @@
 -- `engine_pages::add_page` meets its contract: a page entry is inserted before page p, and then the row on it (`added`).
 use Rattle.memory_layout.proofs.Laws.{holds_room}
 use Rattle.engine_pages.proofs.Growing.{add_space, added_there, added_new, added}
-use Rattle.basics.proofs.Kit.{rules}
 use Rattle.engine_pages.proofs.add_page.Goals as goal
 
 pub start_of-at-requires : goal.start_of-at-requires

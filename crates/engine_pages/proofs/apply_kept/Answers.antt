@@ -1,5 +1,5 @@
 -- `engine_pages::apply_kept` meets its contract: a pending commit by `kept_both`, any other row by `kept_one`.
-use Rattle.basics.proofs.Kit.{sym, ◌∙◌, rules}
+use Rattle.basics.proofs.Kit.{sym, ◌∙◌}
 use Rattle.engine_pages.proofs.Applying.{kept_both, kept_one, still_row}
 use Rattle.engine_pages.proofs.apply_kept.Goals as goal
 

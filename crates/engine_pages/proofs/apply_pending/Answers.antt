@@ -1,6 +1,6 @@
 -- `engine_pages::apply_pending` meets its contract: without a row left the page is dropped (`left_none`), else it is dirty (`left_some`).
 use Rattle.engine_pages.proofs.Applying.{left_there, left_empty, left_none, left_some}
-use Rattle.basics.proofs.Kit.{rules, arith}
+use Rattle.basics.proofs.Kit.{arith}
 use Rattle.engine_pages.proofs.apply_pending.Goals as goal
 
 pub remove_page-requires : goal.remove_page-requires

@@ -1,5 +1,5 @@
 -- `engine_pages::apply_pending_row` meets its contract: a pending removal by `row_removed`, any other row by `row_kept`.
-use Rattle.basics.proofs.Kit.{sym, ◌∙◌, rules}
+use Rattle.basics.proofs.Kit.{sym, ◌∙◌}
 use Rattle.engine_pages.proofs.Applying.{row_removed, row_kept}
 use Rattle.engine_pages.proofs.apply_pending_row.Goals as goal
 

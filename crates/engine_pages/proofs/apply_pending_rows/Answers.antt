@@ -1,7 +1,7 @@
 -- `engine_pages::apply_pending_rows` meets its contract. The invariant: the operations of all rows but the last `left` are applied, and row i is the next.
 use Rattle.engine_pages.proofs.Places.{start_there}
 use Rattle.memory_layout.proofs.Laws.{sizes}
-use Rattle.engine_pages.proofs.Applying.{ApplyInv, apply_start, apply_may, apply_next, apply_end, one_most}
+use Rattle.engine_pages.proofs.Applying.{apply_start, apply_may, apply_next, apply_end, one_most}
 use Rattle.basics.proofs.Kit.{arith}
 use Rattle.engine_pages.proofs.apply_pending_rows.Goals as goal
 

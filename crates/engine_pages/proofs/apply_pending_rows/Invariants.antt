@@ -1,7 +1,4 @@
-use Rattle.engine_pages.proofs.Places.{start_there}
-use Rattle.memory_layout.proofs.Laws.{sizes}
-use Rattle.engine_pages.proofs.Applying.{ApplyInv, apply_start, apply_may, apply_next, apply_end, one_most}
-use Rattle.basics.proofs.Kit.{arith}
+use Rattle.engine_pages.proofs.Applying.{ApplyInv}
 use Rattle.engine_pages.proofs.apply_pending_rows.Given as goal
 
 abbrev pub invariant-loop-left : goal.invariant-loop-left

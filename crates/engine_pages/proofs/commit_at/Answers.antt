@@ -1,5 +1,5 @@
 -- `engine_pages::commit_at` meets its contract: on a frozen page by that of `commit_later`, on another by `commit_now_lem`, which leaves it dirty.
-use Rattle.basics.proofs.Kit.{sym, ◌∙◌, rules, arith}
+use Rattle.basics.proofs.Kit.{sym, ◌∙◌, arith}
 use Rattle.engine_pages.proofs.Places.{row_in_lem, page_in_lem, page_frozen, now_to, holds_now, still_there}
 use Rattle.engine_pages.proofs.Committing.{commit_is, commit_now_lem}
 use Rattle.engine_pages.proofs.commit_at.Goals as goal

@@ -1,5 +1,5 @@
 -- `engine_pages::commit_later` meets its contract: a pending add by `commit_adding`, a pending removal by `commit_left`, any other row by `commit_noted`.
-use Rattle.basics.proofs.Kit.{sym, ◌∙◌, rules}
+use Rattle.basics.proofs.Kit.{sym, ◌∙◌}
 use Rattle.engine_pages.proofs.Places.{row_in_lem}
 use Rattle.engine_pages.proofs.Committing.{commit_left, commit_adding, commit_noted}
 use Rattle.engine_pages.proofs.commit_later.Goals as goal

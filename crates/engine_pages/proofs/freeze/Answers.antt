@@ -1,9 +1,9 @@
 -- `engine_pages::freeze` meets its contract. The invariant: the first p pages are frozen where they were dirty, and the others are as at entry.
 use Rattle.memory_layout.specs.Flat.{flat_of}
 use Rattle.memory_layout.proofs.Laws.{holds_room, pages_read, sizes}
-use Rattle.basics.proofs.Kit.{◌<◌, ◌-◌, length, rules, arith}
+use Rattle.basics.proofs.Kit.{◌<◌, length, arith}
 use Rattle.engine_pages.proofs.Places.{holds_now}
-use Rattle.engine_pages.proofs.Freezing.{FreezeInv, freeze_start, freeze_there, freeze_next, freeze_end}
+use Rattle.engine_pages.proofs.Freezing.{freeze_start, freeze_there, freeze_next, freeze_end}
 use Rattle.engine_pages.proofs.freeze.Goals as goal
 
 pub freeze_page-requires : goal.freeze_page-requires

@@ -1,5 +1,5 @@
 -- `engine_pages::freeze_page` meets its contract: a page is dirty exactly if its block is 0 (`frozen_now`).
-use Rattle.basics.proofs.Kit.{rules, arith}
+use Rattle.basics.proofs.Kit.{arith}
 use Rattle.engine_pages.proofs.Places.{page_in_lem, room, block_small}
 use Rattle.engine_pages.proofs.Freezing.{frozen_now}
 use Rattle.engine_pages.proofs.freeze_page.Goals as goal

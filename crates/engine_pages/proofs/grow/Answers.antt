@@ -1,5 +1,5 @@
 -- `engine_pages::grow` meets its contract: on a frozen page the row is a pending add (`grew_frozen`), another page is dirty and split if too large (`grew`).
-use Rattle.basics.proofs.Kit.{sym, ◌∙◌, rules, arith}
+use Rattle.basics.proofs.Kit.{sym, ◌∙◌, arith}
 use Rattle.engine_pages.proofs.Places.{page_in_lem, page_frozen}
 use Rattle.engine_pages.proofs.Growing.{grow_there, grow_new, more_there, more_rows_lem, grew_frozen, grew_there, grew_dirty, grew}
 use Rattle.engine_pages.proofs.grow.Goals as goal

@@ -1,5 +1,5 @@
 -- `engine_pages::halve` meets its contract: both parts have a row (`between`), and the pages are as the rule says (`halved`).
-use Rattle.basics.proofs.Kit.{◌≤◌, ◌<◌, rules, arith}
+use Rattle.basics.proofs.Kit.{◌≤◌, ◌<◌, arith}
 use Rattle.memory_layout.proofs.Laws.{sizes}
 use Rattle.engine_pages.specs.Pages.{entry_of}
 use Rattle.engine_pages.proofs.Places.{start_there, next_there, room, page_span, page_end, ends_at, has_row, few, spacious}

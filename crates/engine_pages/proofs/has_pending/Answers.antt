@@ -1,7 +1,6 @@
 -- `engine_pages::has_pending` meets its contract. The invariant (`AnyFrom`): the answer is hit, or whether one of the page's rows from row i on has a pending operation.
-use Rattle.basics.proofs.Kit.{ap, ◌∙◌, ◌-◌, arith}
-use Rattle.memory_bytes.proofs.Scans.{AnyFrom, any_starts, any_next, any_ends}
-use Rattle.memory_layout.specs.Flat.{flat_of, row_in}
+use Rattle.basics.proofs.Kit.{ap, ◌∙◌, arith}
+use Rattle.memory_bytes.proofs.Scans.{any_starts, any_next, any_ends}
 use Rattle.engine_sizes.proofs.Sizes.{rows_by}
 use Rattle.engine_pages.proofs.Places.{room, start_there, next_there, page_span, tuples_are}
 use Rattle.memory_layout.proofs.Laws.{sizes}

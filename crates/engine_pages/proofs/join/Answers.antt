@@ -1,6 +1,6 @@
 -- `engine_pages::join` meets its contract, by those of `join_before` and `join_after`, one after the other (`tried_both`).
 use Rattle.engine_pages.specs.Pages.{There}
-use Rattle.basics.proofs.Kit.{sym, subst, List, ℕ, rules}
+use Rattle.basics.proofs.Kit.{sym, subst, List, ℕ}
 use Rattle.engine_pages.proofs.Joining.{tried, tried_both}
 use Rattle.engine_pages.proofs.join.Goals as goal
 

@@ -1,5 +1,5 @@
 -- `engine_pages::join_after` meets its contract: nothing changes without a successor or if the two may not join; else they are joined (`next_joins`).
-use Rattle.basics.proofs.Kit.{sym, ◌∙◌, ◌+◌, ◌<◌, length, not-true, not-false, rules, arith}
+use Rattle.basics.proofs.Kit.{sym, ◌∙◌, ◌+◌, ◌<◌, length, arith}
 use Rattle.memory_layout.specs.Flat.{flat_of}
 use Rattle.memory_layout.proofs.Laws.{pages_read, sizes}
 use Rattle.engine_pages.proofs.Places.{now_to, room}

@@ -1,5 +1,5 @@
 -- `engine_pages::join_before` meets its contract: nothing changes without a predecessor or if the two may not join; else they are joined (`prev_joins`).
-use Rattle.basics.proofs.Kit.{sym, ◌∙◌, not-true, not-false, rules, arith}
+use Rattle.basics.proofs.Kit.{sym, ◌∙◌, arith}
 use Rattle.basics.proofs.Numbers.{pos_of}
 use Rattle.engine_pages.proofs.Places.{now_to}
 use Rattle.engine_pages.proofs.Joining.{tried, not_tried, first_apart, prev_at, prev_inside, prev_joins, prev_apart, may_join, joined_now}

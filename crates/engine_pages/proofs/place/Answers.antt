@@ -2,7 +2,7 @@
 use Rattle.memory_layout.proofs.Laws.{holds_room}
 use Rattle.engine_pages.proofs.Places.{now_to, holds_now}
 use Rattle.engine_pages.proofs.Spots.{may_add, placed_new, first_in, may_grow_first, placed_first, behind_first, place_on_pages, may_grow_later, placed_later}
-use Rattle.basics.proofs.Kit.{rules, arith}
+use Rattle.basics.proofs.Kit.{arith}
 use Rattle.engine_pages.proofs.place.Goals as goal
 
 pub table_start-a-requires : goal.table_start-a-requires

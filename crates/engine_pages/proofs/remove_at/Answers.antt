@@ -1,5 +1,5 @@
 -- `engine_pages::remove_at` meets its contract: on a frozen page by that of `remove_later`, on another by that of `remove_now`.
-use Rattle.basics.proofs.Kit.{sym, ◌∙◌, rules}
+use Rattle.basics.proofs.Kit.{sym, ◌∙◌}
 use Rattle.engine_pages.proofs.Places.{page_in_lem, page_frozen, now_to, holds_now}
 use Rattle.engine_pages.proofs.Removing.{removed_later, removed_now}
 use Rattle.engine_pages.proofs.remove_at.Goals as goal

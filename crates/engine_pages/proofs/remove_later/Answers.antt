@@ -1,5 +1,4 @@
 -- `engine_pages::remove_later` meets its contract: a removal is noted by `later_noted`; an added row stays if it is the only one, else it goes (`later_away`).
-use Rattle.basics.proofs.Kit.{not-true, not-false, rules}
 use Rattle.engine_pages.proofs.Places.{row_in_lem}
 use Rattle.engine_pages.proofs.Removing.{may_lose, later_noted, later_last, later_away}
 use Rattle.engine_pages.proofs.remove_later.Goals as goal

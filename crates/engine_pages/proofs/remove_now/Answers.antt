@@ -1,5 +1,5 @@
 -- `engine_pages::remove_now` meets its contract: an empty page is dropped (`now_none`), another is joined as it may be (`now_joined`).
-use Rattle.basics.proofs.Kit.{sym, ◌∙◌, ◌<◌, rules, arith}
+use Rattle.basics.proofs.Kit.{sym, ◌∙◌, ◌<◌, arith}
 use Rattle.basics.proofs.Numbers.{less_than}
 use Rattle.engine_pages.specs.Pages.{entry_of}
 use Rattle.engine_pages.proofs.Places.{has_row}

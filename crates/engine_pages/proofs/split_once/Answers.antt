@@ -1,5 +1,5 @@
 -- `engine_pages::split_once` meets its contract: the page fits a block and stays (`stays_once`), or `halve` has split it.
-use Rattle.basics.proofs.Kit.{◌≡◌, refl, rules, arith}
+use Rattle.basics.proofs.Kit.{◌≡◌, refl, arith}
 use Rattle.model.specs.Rules.{fits}
 use Rattle.memory_layout.proofs.Laws.{sizes}
 use Rattle.engine_pages.specs.Pages.{tuples_at}

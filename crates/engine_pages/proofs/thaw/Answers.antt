@@ -1,5 +1,5 @@
 -- `engine_pages::thaw` meets its contract, in its four cases: `thawed_clean`, `thawed_none`, `thawed_joined`, `thawed_split`.
-use Rattle.basics.proofs.Kit.{sym, ◌∙◌, not-true, not-false, rules}
+use Rattle.basics.proofs.Kit.{sym, ◌∙◌}
 use Rattle.engine_pages.proofs.Places.{room, holds_now}
 use Rattle.engine_pages.proofs.Thawing.{thawed_clean, thawed_none, left_at, thawed_joined, apart_at, apart_sized, thawed_split}
 use Rattle.engine_pages.proofs.thaw.Goals as goal

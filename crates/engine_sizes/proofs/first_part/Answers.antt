@@ -1,6 +1,6 @@
 -- `engine_sizes::first_part` meets its contract. The invariant (`Between`): the rest of the walk, from rows i and j on, ends where the whole walk does.
-use Rattle.basics.proofs.Kit.{◌-◌, arith}
-use Rattle.engine_sizes.proofs.Walking.{Between, walk_start, row_there, few, light, walk_left, walk_right, walk_end}
+use Rattle.basics.proofs.Kit.{arith}
+use Rattle.engine_sizes.proofs.Walking.{walk_start, row_there, few, light, walk_left, walk_right, walk_end}
 use Rattle.engine_sizes.proofs.first_part.Goals as goal
 
 pub loop-i-init : goal.loop-i-init

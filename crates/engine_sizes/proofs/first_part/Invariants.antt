@@ -1,5 +1,5 @@
-use Rattle.basics.proofs.Kit.{◌-◌, arith}
-use Rattle.engine_sizes.proofs.Walking.{Between, walk_start, row_there, few, light, walk_left, walk_right, walk_end}
+use Rattle.basics.proofs.Kit.{◌-◌}
+use Rattle.engine_sizes.proofs.Walking.{Between}
 use Rattle.engine_sizes.proofs.first_part.Given as goal
 
 abbrev pub invariant-loop-i : goal.invariant-loop-i

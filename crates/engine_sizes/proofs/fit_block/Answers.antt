@@ -1,5 +1,5 @@
 -- `engine_sizes::fit_block` meets its contract: few rows are small enough together (`rows_most`), and others are summed.
-use Rattle.basics.proofs.Kit.{sym, ap, ◌∙◌, ℕ, leb, le-leb, rules, arith}
+use Rattle.basics.proofs.Kit.{sym, ap, ◌∙◌, ℕ, leb, le-leb, arith}
 use Rattle.basics.specs.Basics.{sum}
 use Rattle.block_forms.specs.Limits.{record_space}
 use Rattle.model.specs.Rules.{held_size}

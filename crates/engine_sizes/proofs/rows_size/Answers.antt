@@ -1,10 +1,7 @@
 -- `engine_sizes::rows_size` meets its contract. The invariant: the sum is `all` plus the sizes of the rows from i on. No sum is large (`rows_most`).
-use Rattle.basics.proofs.Kit.{◌≡◌, ◌+◌, ◌*◌, ◌≤◌, ◌-◌, arith}
-use Rattle.basics.specs.Basics.{sum}
+use Rattle.basics.proofs.Kit.{◌*◌, ◌≤◌, arith}
 use Rattle.block_forms.specs.Limits.{most_record}
 use Rattle.image.specs.Stages.{capacity_limit}
-use Rattle.model.specs.Rules.{held_size}
-use Rattle.memory_layout.specs.Elements.{rows_from}
 use Rattle.memory_layout.proofs.Laws.{sizes}
 use Rattle.engine_sizes.proofs.Sizes.{rows_most, sum_next, sum_none}
 use Rattle.engine_sizes.proofs.rows_size.Goals as goal

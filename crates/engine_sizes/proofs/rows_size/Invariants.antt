@@ -1,11 +1,7 @@
-use Rattle.basics.proofs.Kit.{◌≡◌, ◌+◌, ◌*◌, ◌≤◌, ◌-◌, arith}
+use Rattle.basics.proofs.Kit.{◌≡◌, ◌+◌, ◌≤◌, ◌-◌}
 use Rattle.basics.specs.Basics.{sum}
-use Rattle.block_forms.specs.Limits.{most_record}
-use Rattle.image.specs.Stages.{capacity_limit}
 use Rattle.model.specs.Rules.{held_size}
 use Rattle.memory_layout.specs.Elements.{rows_from}
-use Rattle.memory_layout.proofs.Laws.{sizes}
-use Rattle.engine_sizes.proofs.Sizes.{rows_most, sum_next, sum_none}
 use Rattle.engine_sizes.proofs.rows_size.Given as goal
 
 abbrev pub invariant-loop-i : goal.invariant-loop-i

@@ -1,5 +1,5 @@
 -- `engine_sizes::small_enough` meets its contract. The invariant: the sum is `all` plus the sizes of the rows from i on; `all` is not too large.
-use Rattle.basics.proofs.Kit.{◌≡◌, sym, ◌∙◌, ◌+◌, ◌≤◌, ◌-◌, not-true, not-false, le-leb, lt-leb, leb-true, leb-false, arith}
+use Rattle.basics.proofs.Kit.{◌≡◌, sym, ◌∙◌, ◌+◌, le-leb, lt-leb, leb-true, leb-false, arith}
 use Rattle.basics.specs.Basics.{sum}
 use Rattle.block_forms.specs.Limits.{join_sum}
 use Rattle.model.specs.Rules.{held_size}

@@ -1,9 +1,8 @@
-use Rattle.basics.proofs.Kit.{◌≡◌, sym, ◌∙◌, ◌+◌, ◌≤◌, ◌-◌, not-true, not-false, le-leb, lt-leb, leb-true, leb-false, arith}
+use Rattle.basics.proofs.Kit.{◌≡◌, ◌+◌, ◌≤◌, ◌-◌}
 use Rattle.basics.specs.Basics.{sum}
 use Rattle.block_forms.specs.Limits.{join_sum}
 use Rattle.model.specs.Rules.{held_size}
 use Rattle.memory_layout.specs.Elements.{rows_from}
-use Rattle.engine_sizes.proofs.Sizes.{sum_next, sum_none}
 use Rattle.engine_sizes.proofs.small_enough.Given as goal
 
 abbrev pub invariant-loop-i : goal.invariant-loop-i

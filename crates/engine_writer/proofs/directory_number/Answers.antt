@@ -1,7 +1,7 @@
 -- `engine_writer::directory_number` meets its contract: the entry that is there, or 0.
 use Rattle.memory_layout.specs.Flat.{flat_of}
 use Rattle.memory_layout.proofs.Laws.{directories_read}
-use Rattle.basics.proofs.Kit.{sym, List·getD-eq-default, rules, arith}
+use Rattle.basics.proofs.Kit.{sym, List·getD-eq-default, arith}
 use Rattle.engine_writer.proofs.directory_number.Goals as goal
 
 pub get_directory-requires : goal.get_directory-requires

@@ -1,5 +1,5 @@
 -- `engine_writer::fill_page` meets its contract. The invariant (`Filling`): the block is a page with what the rows before row i show.
-use Rattle.basics.proofs.Kit.{◌≡◌, refl, sym, ap, ◌∙◌, ⊎_elim, List, [], ◌∷◌, ◌++◌, get_or, ℕ, ◌+◌, ◌≤◌, ◌-◌, length, not-true, not-false, arith}
+use Rattle.basics.proofs.Kit.{◌≡◌, refl, sym, ap, ◌∙◌, List, [], ◌∷◌, ◌++◌, get_or, ℕ, ◌+◌, ◌≤◌, ◌-◌, length, not-true, not-false, arith}
 use Rattle.block_forms.specs.Limits.{record_space}
 use Rattle.block_forms.specs.Tuple.{sizes}
 use Rattle.block_forms.proofs.Tuples.{sizes_more}
@@ -54,11 +54,11 @@ loop-i-preserved c = let hs : List Held = (flat_of c.args.m.now).rows in
     let more : Filling c.if-is_shown.block c.args.table c.args.level (length all) (sizes all) (shown (run hs c.args.s (l.i + 1))) c.if-is_shown.at =
     elim c.if-is_shown.branch [
       | then-is_shown a ↦
-        let next = shown_more hs c.args.s l.i l.invariant.0 (omega (arith, c.requires.rows.inside, lt)) (not-true _ (sym c.is_shown.ensures ∙ a.if-is_shown.true)) in
-        filling_same (filling_more f a.record_at-r.ensures a.append-at.ensures next room) a.block-is a.at-is refl
+          let next = shown_more hs c.args.s l.i l.invariant.0 (omega (arith, c.requires.rows.inside, lt)) (not-true _ (sym c.is_shown.ensures ∙ a.if-is_shown.true)) in
+          filling_same (filling_more f a.record_at-r.ensures a.append-at.ensures next room) a.block-is a.at-is refl
       | else-is_shown a ↦
-        filling_same f a.block-is a.at-is
-        (shown_same hs c.args.s l.i l.invariant.0 (omega (arith, c.requires.rows.inside, lt)) (not-false _ (sym c.is_shown.ensures ∙ a.if-is_shown.false)))
+          filling_same f a.block-is a.at-is
+          (shown_same hs c.args.s l.i l.invariant.0 (omega (arith, c.requires.rows.inside, lt)) (not-false _ (sym c.is_shown.ensures ∙ a.if-is_shown.false)))
     ] in
     (omega (arith, l.invariant.0), (omega (arith, lt), more))
 

@@ -1,6 +1,6 @@
 -- `engine_writer::measure` meets its contract. The invariant (`Measured`): count and size are those of what the rows before row i show.
 use Rattle.image.specs.Stages.{capacity_limit}
-use Rattle.basics.proofs.Kit.{◌≡◌, sym, ◌∙◌, ⊎_elim, ◌+◌, ◌≤◌, ◌<◌, ◌-◌, length, not-true, not-false, arith}
+use Rattle.basics.proofs.Kit.{◌≡◌, sym, ◌∙◌, ◌+◌, ◌<◌, ◌-◌, length, not-true, not-false, arith}
 use Rattle.model.specs.Rules.{held_size, shown}
 use Rattle.memory_layout.specs.Flat.{flat_of}
 use Rattle.memory_layout.proofs.Laws.{Known, known}

@@ -1,10 +1,8 @@
-use Rattle.image.specs.Stages.{capacity_limit}
-use Rattle.basics.proofs.Kit.{◌≡◌, sym, ◌∙◌, ⊎_elim, ◌+◌, ◌≤◌, ◌<◌, ◌-◌, length, not-true, not-false, arith}
-use Rattle.model.specs.Rules.{held_size, shown}
+use Rattle.basics.proofs.Kit.{◌≤◌, ◌-◌}
+use Rattle.model.specs.Rules.{shown}
 use Rattle.memory_layout.specs.Flat.{flat_of}
-use Rattle.memory_layout.proofs.Laws.{Known, known}
-use Rattle.engine_writer.proofs.Showing.{run, shown_more, shown_same, shown_none}
-use Rattle.engine_writer.proofs.Writing.{Measured, measured_none, measured_same, measured_more}
+use Rattle.engine_writer.proofs.Showing.{run}
+use Rattle.engine_writer.proofs.Writing.{Measured}
 use Rattle.engine_writer.proofs.measure.Given as goal
 
 abbrev pub invariant-loop-i : goal.invariant-loop-i

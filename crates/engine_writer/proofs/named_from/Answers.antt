@@ -2,8 +2,7 @@
 use Rattle.memory_layout.proofs.Laws.{sizes}
 use Rattle.basics.proofs.Parts.{entries_iteration}
 use Rattle.memory_layout.specs.Flat.{flat_of}
-use Rattle.block_forms.specs.Limits.{entries_per_block}
-use Rattle.basics.proofs.Kit.{◌≡◌, refl, ◌≤◌, ◌-◌, length, take, drop, length-set, arith}
+use Rattle.basics.proofs.Kit.{◌≡◌, refl, length-set, arith}
 use Rattle.engine_writer.proofs.named_from.Goals as goal
 
 pub loop-i-init : goal.loop-i-init

@@ -1,8 +1,6 @@
-use Rattle.memory_layout.proofs.Laws.{sizes}
-use Rattle.basics.proofs.Parts.{entries_iteration}
 use Rattle.memory_layout.specs.Flat.{flat_of}
 use Rattle.block_forms.specs.Limits.{entries_per_block}
-use Rattle.basics.proofs.Kit.{◌≡◌, refl, ◌≤◌, ◌-◌, length, take, drop, length-set, arith}
+use Rattle.basics.proofs.Kit.{◌≡◌, ◌≤◌, ◌-◌, length, take, drop}
 use Rattle.engine_writer.proofs.named_from.Given as goal
 
 abbrev pub invariant-loop-i : goal.invariant-loop-i

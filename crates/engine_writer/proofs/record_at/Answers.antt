@@ -1,6 +1,5 @@
 -- `engine_writer::record_at` meets its contract: field by field (`row_spells`).
 use Rattle.engine_writer.proofs.Recorded.{row_spells}
-use Rattle.basics.proofs.Kit.{rules}
 use Rattle.engine_writer.proofs.record_at.Goals as goal
 
 pub returns : goal.returns

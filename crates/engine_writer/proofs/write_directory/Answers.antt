@@ -1,5 +1,5 @@
 -- `engine_writer::write_directory` meets its contract: a full run of entries or the last one (`run_full`, `run_last`).
-use Rattle.basics.proofs.Kit.{◌≡◌, ap, ◌∙◌, ⊎_elim, List, ℕ, ◌*◌, ◌-◌, take, length-take, rules, arith}
+use Rattle.basics.proofs.Kit.{◌≡◌, ap, ◌∙◌, List, ℕ, ◌*◌, ◌-◌, take, length-take, arith}
 use Rattle.block_forms.specs.Limits.{entries_per_block}
 use Rattle.block_forms.specs.Block.{directory, encode_block}
 use Rattle.memory_layout.specs.Flat.{flat_of}

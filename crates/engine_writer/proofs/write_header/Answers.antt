@@ -3,7 +3,7 @@ use Rattle.engine_writer.proofs.Headers.{header_is}
 use Rattle.memory_layout.specs.declared.Head.{Head}
 use Rattle.block_forms.specs.declared.Header.{Header}
 use Rattle.block_forms.specs.Block.{header, encode_block}
-use Rattle.basics.proofs.Kit.{ap, ◌∙◌, rules, arith}
+use Rattle.basics.proofs.Kit.{ap, ◌∙◌, arith}
 use Rattle.engine_writer.proofs.write_header.Goals as goal
 
 pub overflow_add-block : goal.overflow_add-block

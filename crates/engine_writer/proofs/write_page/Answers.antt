@@ -1,5 +1,5 @@
 -- `engine_writer::write_page` meets its contract: a page that shows nothing is empty (`storable_none`), another holds all that it shows (`storable_all`).
-use Rattle.basics.proofs.Kit.{◌≡◌, refl, sym, ap, ◌∙◌, ⊎_elim, List, ℕ, length, leb-true, rules, arith}
+use Rattle.basics.proofs.Kit.{◌≡◌, refl, sym, ap, ◌∙◌, List, ℕ, length, leb-true, arith}
 use Rattle.block_forms.specs.Limits.{record_space, block_size}
 use Rattle.block_forms.specs.Tuple.{Tuple}
 use Rattle.block_forms.specs.Block.{page, encode_block}
@@ -13,12 +13,12 @@ use Rattle.engine_writer.proofs.write_page.Goals as goal
 
 pub fill_page-requires : goal.fill_page-requires
 fill_page-requires c = record {
-      zero = refl;
-      table = c.requires.table;
-      rows = c.requires.rows;
-      measured = c.measure-w.ensures;
-      fits = leb-true _ record_space (sym c.fits.ensures ∙ c.if-fits.true);
-    }
+  zero = refl;
+  table = c.requires.table;
+  rows = c.requires.rows;
+  measured = c.measure-w.ensures;
+  fits = leb-true _ record_space (sym c.fits.ensures ∙ c.if-fits.true);
+}
 
 pub slice_bounds-copy_out-end : goal.slice_bounds-copy_out-end
 slice_bounds-copy_out-end c = let made : let a = c.args in c.if-fits.block ≡ encode_block (page a.table a.level (storable (shown (rows_from a.m.now a.s a.e)))) = let store : List Tuple → List ℕ = λ ts. encode_block (page c.args.table c.args.level ts) in elim c.if-fits.branch [ then-fits a ↦ a.block-is ∙ a.fill_page.ensures ∙ ap store (sym (storable_all c.measure-w.ensures (sym c.fits.ensures ∙ a.if-fits.true))) | else-fits a ↦ a.block-is ∙ a.begin_page.ensures ∙ empty_page c.requires.table (omega (arith, c.ranges)) ∙ ap store (sym (storable_none c.measure-w.ensures (sym c.fits.ensures ∙ a.if-fits.false))) ] in

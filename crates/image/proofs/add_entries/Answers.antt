@@ -1,5 +1,5 @@
 -- `image::add_entries` meets its contract, by cases: a directory of another level, one of another count, one whose entries are put, no directory.
-use Rattle.basics.proofs.Kit.{sym, ap, ◌∙◌, rules}
+use Rattle.basics.proofs.Kit.{sym, ap, ◌∙◌}
 use Rattle.block_reader.proofs.Answering.{no_directory}
 use Rattle.image.specs.Stages.{entries_due}
 use Rattle.image.proofs.Named.{Read, read, other_level, other_count, entries_put, not_put}

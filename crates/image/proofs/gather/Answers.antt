@@ -1,6 +1,6 @@
 -- `image::gather` meets its contract. The invariant: out begins with the entries of the first i directory blocks; those of the others are still to be read.
-use Rattle.basics.proofs.Kit.{◌≡◌, refl, ◌∙◌, ◌-◌, length, not-true, not-false, arith}
-use Rattle.image.proofs.Named.{Gathering, gathering_start, gathering_iteration, gathering_stop, gathering_end}
+use Rattle.basics.proofs.Kit.{refl, ◌∙◌, arith}
+use Rattle.image.proofs.Named.{gathering_start, gathering_iteration, gathering_stop, gathering_end}
 use Rattle.image.proofs.Collect.{within, seen}
 use Rattle.image.specs.View.{view}
 use Rattle.image.proofs.gather.Goals as goal

@@ -1,6 +1,5 @@
-use Rattle.basics.proofs.Kit.{◌≡◌, refl, ◌∙◌, ◌-◌, length, not-true, not-false, arith}
-use Rattle.image.proofs.Named.{Gathering, gathering_start, gathering_iteration, gathering_stop, gathering_end}
-use Rattle.image.proofs.Collect.{within, seen}
+use Rattle.basics.proofs.Kit.{◌≡◌, ◌-◌, length}
+use Rattle.image.proofs.Named.{Gathering}
 use Rattle.image.specs.View.{view}
 use Rattle.image.proofs.gather.Given as goal
 

@@ -1,6 +1,4 @@
-use Rattle.basics.proofs.Kit.{◌≡◌, refl, sym, ap, ◌∙◌, List, ℕ, ◌+◌, ◌≤◌, ◌-◌, length, take, set, length-set, arith}
-use Rattle.basics.proofs.Overs.{put_iteration}
-use Rattle.basics.proofs.Overs.{over_nil}
+use Rattle.basics.proofs.Kit.{◌≡◌, ◌≤◌, ◌-◌, length, take}
 use Rattle.basics.specs.Lists.{over}
 use Rattle.image.proofs.put_entries.Given as goal
 

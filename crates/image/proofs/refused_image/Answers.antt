@@ -1,5 +1,4 @@
 -- `image::refused_image` meets its contract: the entries are those of `no_entries`.
-use Rattle.basics.proofs.Kit.{rules}
 use Rattle.image.specs.Answers.{no_header, image_answer}
 use Rattle.image.proofs.refused_image.Goals as goal
 

@@ -1,5 +1,4 @@
 -- `image::refused_pages` meets its contract: the entries are those of `no_entries`.
-use Rattle.basics.proofs.Kit.{rules}
 use Rattle.image.specs.Answers.{pages_answer}
 use Rattle.image.proofs.refused_pages.Goals as goal
 

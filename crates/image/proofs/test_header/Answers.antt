@@ -1,6 +1,6 @@
 -- `image::test_header` meets its contract: a wrong length is refused with 1, otherwise block 0 decides (`by_block`).
 use Rattle.block_forms.specs.Limits.{block_size}
-use Rattle.basics.proofs.Kit.{sym, ap, ◌∙◌, ◌/◌, length, rules}
+use Rattle.basics.proofs.Kit.{sym, ap, ◌∙◌, ◌/◌, length}
 use Rattle.image.proofs.Staged.{not_whole, too_few, too_many, by_block, header_yes, header_no, other_header}
 use Rattle.image.specs.Answers.{header_answer}
 use Rattle.block_forms.specs.Decode.{decode_block}

@@ -1,5 +1,5 @@
 -- `image::test_image` meets its contract: the lemmas of Staged join the answers of `test_header` and `test_pages`.
-use Rattle.basics.proofs.Kit.{sym, ◌∙◌, rules}
+use Rattle.basics.proofs.Kit.{sym, ◌∙◌}
 use Rattle.image.proofs.Staged.{passed_is, image_refused, image_stopped, image_holds}
 use Rattle.image.proofs.test_image.Goals as goal
 

@@ -1,5 +1,5 @@
 -- `image::test_pages` meets its contract: a lemma of Staged for each return; `begun` has what is known of a header that passed, `have` of entries that were read.
-use Rattle.basics.proofs.Kit.{sym, ap, ◌∙◌, ◌≤◌, length, length-take, not-true, not-false, rules, arith}
+use Rattle.basics.proofs.Kit.{sym, ap, ◌∙◌, ◌≤◌, length, length-take, arith}
 use Rattle.image.proofs.Staged.{Begun, Got, passing, four, within_none, named, not_read, got, not_ok, in_image, wrong_pages, right_pages}
 use Rattle.image.specs.Answers.{pages_answer}
 use Rattle.image.proofs.test_pages.Goals as goal

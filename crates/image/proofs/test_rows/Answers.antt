@@ -1,9 +1,8 @@
 -- `image::test_rows` meets its contract. The invariant: the columns have the rows of the first i pages, without payloads, and their delete marks are right.
-use Rattle.basics.proofs.Kit.{◌≡◌, refl, ◌∙◌, ◌-◌, length, get_or, rules, arith}
-use Rattle.image.proofs.Collect.{Collecting, within, Goods, goods, page_here, tuples_here, collecting_start, collecting_iteration, collecting_end, collecting_bad}
+use Rattle.basics.proofs.Kit.{refl, ◌∙◌, ◌-◌, get_or, arith}
+use Rattle.image.proofs.Collect.{within, Goods, goods, page_here, tuples_here, collecting_start, collecting_iteration, collecting_end, collecting_bad}
 use Rattle.block_forms.specs.Block.{as_page}
 use Rattle.image.specs.View.{view}
-use Rattle.image_rows.specs.Columns.{rows_in}
 use Rattle.image.proofs.test_rows.Goals as goal
 
 pub loop-i-init : goal.loop-i-init

@@ -1,6 +1,5 @@
-use Rattle.basics.proofs.Kit.{◌≡◌, refl, ◌∙◌, ◌-◌, length, get_or, rules, arith}
-use Rattle.image.proofs.Collect.{Collecting, within, Goods, goods, page_here, tuples_here, collecting_start, collecting_iteration, collecting_end, collecting_bad}
-use Rattle.block_forms.specs.Block.{as_page}
+use Rattle.basics.proofs.Kit.{◌≡◌, ◌-◌, length}
+use Rattle.image.proofs.Collect.{Collecting}
 use Rattle.image.specs.View.{view}
 use Rattle.image_rows.specs.Columns.{rows_in}
 use Rattle.image.proofs.test_rows.Given as goal

@@ -1,8 +1,7 @@
 -- `image_header::all_zero` meets its contract. The invariant: all numbers are 0 exactly if all from index i on are.
-use Rattle.basics.proofs.Kit.{◌≡◌, refl, sym, ◌∙◌, ◌-◌, length, drop, eq-eqb, ne_eqb, arith}
+use Rattle.basics.proofs.Kit.{refl, sym, ◌∙◌, eq-eqb, ne_eqb, arith}
 use Rattle.basics.proofs.Iterations.{drop_iteration, drop_end, all_yes, all_not, all_end}
 use Rattle.image_header.specs.Names.{is_zero}
-use Rattle.basics.specs.Basics.{all}
 use Rattle.image_header.proofs.all_zero.Goals as goal
 
 pub returns-then-s-i-ne0 : goal.returns-then-s-i-ne0

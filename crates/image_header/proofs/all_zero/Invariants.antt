@@ -1,5 +1,4 @@
-use Rattle.basics.proofs.Kit.{◌≡◌, refl, sym, ◌∙◌, ◌-◌, length, drop, eq-eqb, ne_eqb, arith}
-use Rattle.basics.proofs.Iterations.{drop_iteration, drop_end, all_yes, all_not, all_end}
+use Rattle.basics.proofs.Kit.{◌≡◌, ◌-◌, length, drop}
 use Rattle.image_header.specs.Names.{is_zero}
 use Rattle.basics.specs.Basics.{all}
 use Rattle.image_header.proofs.all_zero.Given as goal

@@ -1,7 +1,7 @@
 -- `image_header::apart` meets its contract. The invariant: no number of s is in t exactly if none from index i on is.
-use Rattle.basics.proofs.Kit.{◌≡◌, refl, sym, ap, ◌∙◌, Bool, not, ℕ, ◌-◌, length, drop, arith}
+use Rattle.basics.proofs.Kit.{refl, sym, ap, ◌∙◌, Bool, not, ℕ, arith}
 use Rattle.basics.proofs.Iterations.{drop_iteration, drop_end, all_yes, all_not, all_end}
-use Rattle.basics.specs.Basics.{all, is_in}
+use Rattle.basics.specs.Basics.{is_in}
 use Rattle.image_header.proofs.apart.Goals as goal
 
 pub returns-then-is_in : goal.returns-then-is_in

@@ -1,5 +1,4 @@
-use Rattle.basics.proofs.Kit.{◌≡◌, refl, sym, ap, ◌∙◌, Bool, not, ℕ, ◌-◌, length, drop, arith}
-use Rattle.basics.proofs.Iterations.{drop_iteration, drop_end, all_yes, all_not, all_end}
+use Rattle.basics.proofs.Kit.{◌≡◌, not, ◌-◌, length, drop}
 use Rattle.basics.specs.Basics.{all, is_in}
 use Rattle.image_header.proofs.apart.Given as goal
 

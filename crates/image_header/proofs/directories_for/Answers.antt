@@ -1,5 +1,5 @@
 -- `image_header::directories_for` meets its contract, by the definition, since no sum is too large.
-use Rattle.basics.proofs.Kit.{refl, rules, arith}
+use Rattle.basics.proofs.Kit.{refl, arith}
 use Rattle.image_header.specs.Names.{directories_for}
 use Rattle.image_header.proofs.directories_for.Goals as goal
 

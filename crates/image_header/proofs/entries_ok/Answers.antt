@@ -1,8 +1,8 @@
 -- `image_header::entries_ok` meets its contract, by the contracts of `in_blocks`, `apart` and `distinct`.
-use Rattle.basics.proofs.Kit.{sym, ◌∙◌, not-true, not-false, rules}
+use Rattle.basics.proofs.Kit.{sym, ◌∙◌}
 use Rattle.basics.proofs.Ands.{and_yes, and_no}
 use Rattle.image_header.specs.Names.{entries_ok}
-use Rattle.basics.specs.Basics.{every, distinct}
+use Rattle.basics.specs.Basics.{every}
 use Rattle.image_header.proofs.entries_ok.Goals as goal
 
 pub returns-then-not-in_blocks : goal.returns-then-not-in_blocks

@@ -1,5 +1,5 @@
 -- `image_header::head_ok` meets its contract: the counts and the three tests of the directory numbers, each where it fails, and all at the end.
-use Rattle.basics.proofs.Kit.{sym, ◌∙◌, ◌≤◌, length-take, not-true, not-false, rules, arith}
+use Rattle.basics.proofs.Kit.{sym, ◌∙◌, ◌≤◌, length-take, arith}
 use Rattle.image_header.proofs.Heads.{four_used, used, unused}
 use Rattle.basics.proofs.Ands.{and_yes, and_no}
 use Rattle.image_header.specs.Names.{block_ok, is_zero, header_ok}

@@ -1,8 +1,7 @@
 -- `image_header::in_blocks` meets its contract. The invariant: every number may be named exactly if every one from index i on may.
-use Rattle.basics.proofs.Kit.{◌≡◌, refl, sym, ◌∙◌, ◌-◌, length, drop, not-true, not-false, arith}
+use Rattle.basics.proofs.Kit.{refl, sym, ◌∙◌, arith}
 use Rattle.basics.proofs.Iterations.{drop_iteration, drop_end, all_yes, all_not, all_end}
 use Rattle.image_header.specs.Names.{block_ok}
-use Rattle.basics.specs.Basics.{all}
 use Rattle.image_header.proofs.in_blocks.Goals as goal
 
 pub returns-then-not-block_ok : goal.returns-then-not-block_ok

@@ -1,15 +1,12 @@
 -- `image_page::add_rows` meets its contract. The invariant: `at` is behind the first i tuples, and their rows are in the columns from place k on.
-use Rattle.basics.proofs.Kit.{◌≡◌, refl, sym, ◌∙◌, some, List, ◌++◌, map, ℕ, ◌+◌, ◌≤◌, ◌<◌, ◌-◌, length, take, drop, arith}
-use Rattle.block_forms.specs.Limits.{page_head_size, block_size}
-use Rattle.block_reader.proofs.Walk.{Walk, read_count, walk_read, walk_found, walk_bad, walk_end}
+use Rattle.basics.proofs.Kit.{◌≡◌, refl, sym, ◌∙◌, List, ℕ, ◌+◌, ◌≤◌, ◌<◌, length, drop, arith}
+use Rattle.block_forms.specs.Limits.{page_head_size}
+use Rattle.block_reader.proofs.Walk.{read_count, walk_read, walk_found, walk_bad, walk_end}
 use Rattle.image_page.proofs.Walk.{row_first, row_next, row_last}
-use Rattle.image_rows.specs.Columns.{rows_in, bare}
-use Rattle.image_rows.specs.Rows.{rows_of}
+use Rattle.image_rows.specs.Columns.{rows_in}
 use Rattle.block_forms.proofs.Spelled.{all_bytes}
 use Rattle.block_reader.proofs.Records.{found_is, found_fits}
 use Rattle.block_forms.specs.Bytes.{payload_in}
-use Rattle.block_forms.specs.Decode.{page_tuples}
-use Rattle.block_forms.specs.Tuple.{Tuple}
 use Rattle.image_page.proofs.add_rows.Goals as goal
 
 pub loop-i-init : goal.loop-i-init

@@ -1,12 +1,8 @@
-use Rattle.basics.proofs.Kit.{◌≡◌, refl, sym, ◌∙◌, some, List, ◌++◌, map, ℕ, ◌+◌, ◌≤◌, ◌<◌, ◌-◌, length, take, drop, arith}
-use Rattle.block_forms.specs.Limits.{page_head_size, block_size}
-use Rattle.block_reader.proofs.Walk.{Walk, read_count, walk_read, walk_found, walk_bad, walk_end}
-use Rattle.image_page.proofs.Walk.{row_first, row_next, row_last}
+use Rattle.basics.proofs.Kit.{◌≡◌, some, List, ◌++◌, map, ◌+◌, ◌≤◌, ◌-◌, length, take}
+use Rattle.block_forms.specs.Limits.{block_size}
+use Rattle.block_reader.proofs.Walk.{Walk}
 use Rattle.image_rows.specs.Columns.{rows_in, bare}
 use Rattle.image_rows.specs.Rows.{rows_of}
-use Rattle.block_forms.proofs.Spelled.{all_bytes}
-use Rattle.block_reader.proofs.Records.{found_is, found_fits}
-use Rattle.block_forms.specs.Bytes.{payload_in}
 use Rattle.block_forms.specs.Decode.{page_tuples}
 use Rattle.block_forms.specs.Tuple.{Tuple}
 use Rattle.image_page.proofs.add_rows.Given as goal

@@ -1,5 +1,5 @@
 -- `image_page::good_page` meets its contract: for no page by `no_page`, where a test fails by `good_not`, where all pass by `good_yes`.
-use Rattle.basics.proofs.Kit.{sym, ◌∙◌, le-leb, lt-leb, not-true, not-false, rules, arith}
+use Rattle.basics.proofs.Kit.{sym, ◌∙◌, le-leb, lt-leb, arith}
 use Rattle.block_reader.proofs.Answering.{no_page}
 use Rattle.image_page.specs.Page.{good_page}
 use Rattle.image_page.proofs.Decoded.{Passed, passed, good_not, good_yes}

@@ -1,5 +1,5 @@
 -- `image_page::mark_ok` meets its contract: a delete mark is of a tentative tuple without payload (`marked_open`).
-use Rattle.basics.proofs.Kit.{sym, rules}
+use Rattle.basics.proofs.Kit.{sym}
 use Rattle.image_page.proofs.Places.{unmarked, marked_held, marked_open}
 use Rattle.image_page.proofs.mark_ok.Goals as goal
 

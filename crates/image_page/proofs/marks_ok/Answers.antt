@@ -1,13 +1,11 @@
 -- `image_page::marks_ok` meets its contract. The invariant: `at` is behind the first i tuples; the answer is whether the marks from tuple i on are right.
-use Rattle.basics.proofs.Kit.{◌≡◌, refl, sym, ◌∙◌, some, List, ℕ, ◌≤◌, ◌-◌, drop, not-true, not-false, arith}
-use Rattle.block_reader.proofs.Walk.{Walk, Handed, read_count, walk_read, walk_found, walk_bad, walk_end}
+use Rattle.basics.proofs.Kit.{◌≡◌, refl, sym, ◌∙◌, some, List, ℕ, drop, arith}
+use Rattle.block_reader.proofs.Walk.{Handed, read_count, walk_read, walk_found, walk_bad, walk_end}
 use Rattle.image_page.proofs.Walk.{mark_right, mark_wrong, marks_end}
-use Rattle.image_rows.specs.Rows.{rows_of, mark_ok}
 use Rattle.block_reader.proofs.Records.{found_is}
 use Rattle.block_forms.specs.Decode.{page_tuples}
 use Rattle.block_forms.specs.Tuple.{Tuple}
-use Rattle.basics.specs.Basics.{all}
-use Rattle.block_forms.specs.Limits.{page_head_size, block_size}
+use Rattle.block_forms.specs.Limits.{page_head_size}
 use Rattle.image_page.proofs.marks_ok.Goals as goal
 
 pub loop-i-init : goal.loop-i-init

@@ -1,12 +1,10 @@
-use Rattle.basics.proofs.Kit.{◌≡◌, refl, sym, ◌∙◌, some, List, ℕ, ◌≤◌, ◌-◌, drop, not-true, not-false, arith}
-use Rattle.block_reader.proofs.Walk.{Walk, Handed, read_count, walk_read, walk_found, walk_bad, walk_end}
-use Rattle.image_page.proofs.Walk.{mark_right, mark_wrong, marks_end}
+use Rattle.basics.proofs.Kit.{◌≡◌, some, List, ℕ, ◌≤◌, ◌-◌, drop}
+use Rattle.block_reader.proofs.Walk.{Walk}
 use Rattle.image_rows.specs.Rows.{rows_of, mark_ok}
-use Rattle.block_reader.proofs.Records.{found_is}
 use Rattle.block_forms.specs.Decode.{page_tuples}
 use Rattle.block_forms.specs.Tuple.{Tuple}
 use Rattle.basics.specs.Basics.{all}
-use Rattle.block_forms.specs.Limits.{page_head_size, block_size}
+use Rattle.block_forms.specs.Limits.{block_size}
 use Rattle.image_page.proofs.marks_ok.Given as goal
 
 abbrev pub invariant-loop-i : goal.invariant-loop-i

@@ -1,5 +1,5 @@
 -- `image_page::owner_code` meets its contract: a committed owner is 0, a tentative one its number above it (`owner_coded`).
-use Rattle.basics.proofs.Kit.{refl, sym, ap, ◌∙◌, subst, rules, arith}
+use Rattle.basics.proofs.Kit.{refl, sym, ap, ◌∙◌, subst, arith}
 use Rattle.basics.specs.Basics.{if◌then◌else◌}
 use Rattle.block_forms.specs.Tuple.{OwnerFits}
 use Rattle.block_forms.specs.Bytes.{owner_is}

@@ -1,5 +1,5 @@
 -- `image_page::put_row` meets its contract: the four columns have the record's numbers, so the row read from them is the record's (`row_put`).
-use Rattle.basics.proofs.Kit.{ap, ◌∙◌, [], ◌∷◌, ◌++◌, rules}
+use Rattle.basics.proofs.Kit.{ap, ◌∙◌, [], ◌∷◌, ◌++◌}
 use mir.Val.{bool_byte}
 use Rattle.image_page.proofs.Places.{record_row, row_put}
 use Rattle.image_rows.specs.Rows.{Row}

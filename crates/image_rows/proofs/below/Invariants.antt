@@ -1,9 +1,7 @@
-use Rattle.basics.proofs.Kit.{◌≡◌, sym, ap, ◌∙◌, [], ◌-◌, lt-ltb, le-ltb, arith}
-use Rattle.basics.proofs.Iterations.{tab_whole, all_yes, all_not, all_end}
-use Rattle.basics.proofs.Searches.{tab_next, tab_none}
-use Rattle.image_rows.specs.Columns.{coded, row_at, rows_in}
+use Rattle.basics.proofs.Kit.{◌≡◌, [], ◌-◌}
+use Rattle.image_rows.specs.Columns.{row_at, rows_in}
 use Rattle.basics.specs.Lists.{tab}
-use Rattle.image_rows.specs.Rows.{is_below, number}
+use Rattle.image_rows.specs.Rows.{is_below}
 use Rattle.basics.specs.Basics.{all}
 use Rattle.image_rows.proofs.below.Given as goal
 

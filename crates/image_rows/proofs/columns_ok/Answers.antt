@@ -3,7 +3,7 @@ use Rattle.image_rows.proofs.Counts.{starts_transactions}
 use Rattle.image_rows.proofs.Order.{statements_ordered}
 use Rattle.image_rows.proofs.Kept.{columns_tests}
 use Rattle.basics.proofs.Ands.{and_yes, and_no}
-use Rattle.basics.proofs.Kit.{sym, ◌∙◌, length-take, not-true, not-false, rules, arith}
+use Rattle.basics.proofs.Kit.{sym, ◌∙◌, length-take, arith}
 use Rattle.image_rows.proofs.columns_ok.Goals as goal
 
 pub returns-then-not-rising : goal.returns-then-not-rising

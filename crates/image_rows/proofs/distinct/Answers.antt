@@ -1,7 +1,7 @@
 -- `image_rows::distinct` meets its contract: the numbers are distinct exactly if each key is there once (`keys_distinct`), which `link_all` answers.
 use Rattle.image_rows.proofs.Chains.{empty_table}
 use Rattle.image_rows.proofs.Keys.{keys_distinct}
-use Rattle.basics.proofs.Kit.{◌∙◌, rules, arith}
+use Rattle.basics.proofs.Kit.{◌∙◌, arith}
 use Rattle.image_rows.proofs.distinct.Goals as goal
 
 pub link_all-requires : goal.link_all-requires

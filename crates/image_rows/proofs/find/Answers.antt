@@ -1,7 +1,7 @@
 -- `image_rows::find` meets its contract. The invariant: the chain ending at row j - 1 is that of the bucket of x, and the search below row j has the answer.
 use Rattle.image_rows.proofs.Chains.{next_less, next_chain, found_here, chain_on}
-use Rattle.image_rows.specs.Chains.{Chain, last_by}
-use Rattle.basics.proofs.Kit.{◌≡◌, refl, sym, ◌∙◌, ◌-◌, eqb, arith}
+use Rattle.image_rows.specs.Chains.{last_by}
+use Rattle.basics.proofs.Kit.{◌≡◌, refl, sym, ◌∙◌, ◌-◌, arith}
 use Rattle.image_rows.proofs.find.Goals as goal
 
 pub returns-then-keys-j : goal.returns-then-keys-j

@@ -1,6 +1,5 @@
-use Rattle.image_rows.proofs.Chains.{next_less, next_chain, found_here, chain_on}
 use Rattle.image_rows.specs.Chains.{Chain, last_by}
-use Rattle.basics.proofs.Kit.{◌≡◌, refl, sym, ◌∙◌, ◌-◌, eqb, arith}
+use Rattle.basics.proofs.Kit.{◌≡◌, eqb}
 use Rattle.image_rows.proofs.find.Given as goal
 
 abbrev pub invariant-loop-j : goal.invariant-loop-j

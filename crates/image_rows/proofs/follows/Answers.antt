@@ -1,5 +1,5 @@
 -- `image_rows::follows` meets its contract, by cases: the place rises, falls or stays; where it stays, by numbers and owners.
-use Rattle.basics.proofs.Kit.{sym, ◌∙◌, lt-ltb, le-ltb, eq-eqb, ne_eqb, rules, arith}
+use Rattle.basics.proofs.Kit.{sym, ◌∙◌, lt-ltb, le-ltb, eq-eqb, ne_eqb, arith}
 use Rattle.basics.specs.Basics.{if◌then◌else◌}
 use Rattle.image_rows.proofs.Places.{follows_rising, follows_falling, follows_there, after_committed}
 use Rattle.image_rows.specs.Columns.{coded_owner}

@@ -1,5 +1,5 @@
 -- `image_rows::is_in` meets its contract. The invariant: x stands in s from the place `from` on exactly if it stands there from index i on.
-use Rattle.basics.proofs.Kit.{◌≡◌, refl, sym, ◌∙◌, ◌-◌, eqb, length, drop, eq-eqb, ne_eqb, arith}
+use Rattle.basics.proofs.Kit.{refl, sym, ◌∙◌, eqb, eq-eqb, ne_eqb, arith}
 use Rattle.basics.proofs.Iterations.{drop_iteration, drop_end, any_yes, any_not, any_end}
 use Rattle.basics.specs.Basics.{is_in}
 use Rattle.image_rows.proofs.is_in.Goals as goal

@@ -1,5 +1,4 @@
-use Rattle.basics.proofs.Kit.{◌≡◌, refl, sym, ◌∙◌, ◌-◌, eqb, length, drop, eq-eqb, ne_eqb, arith}
-use Rattle.basics.proofs.Iterations.{drop_iteration, drop_end, any_yes, any_not, any_end}
+use Rattle.basics.proofs.Kit.{◌≡◌, ◌-◌, length, drop}
 use Rattle.basics.specs.Basics.{is_in}
 use Rattle.image_rows.proofs.is_in.Given as goal
 

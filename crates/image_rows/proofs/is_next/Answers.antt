@@ -1,5 +1,5 @@
 -- `image_rows::is_next` meets its contract: `found` says that `find` answers 1 + the last row of the statement before, 0 for none.
-use Rattle.basics.proofs.Kit.{◌≡◌, ◌-◌, eqb, get_or, rules, arith}
+use Rattle.basics.proofs.Kit.{◌≡◌, ◌-◌, eqb, get_or, arith}
 use Rattle.image_rows.specs.Chains.{last_by}
 use Rattle.image_rows.proofs.Chains.{last_le, table_chain, table_finds, next_first, next_none, next_found}
 use Rattle.image_rows.proofs.is_next.Goals as goal

@@ -1,7 +1,7 @@
 -- `image_rows::link_all` meets its contract. The invariant: the table is that of the first i rows, and the answer is whether each key from row i on is new.
-use Rattle.basics.proofs.Kit.{◌≡◌, refl, ◌-◌, length, length-set, arith}
+use Rattle.basics.proofs.Kit.{refl, length-set, arith}
 use Rattle.basics.proofs.Facts.{lie}
-use Rattle.image_rows.proofs.Chains.{table_chain, Linking, linking_start, linking_end, linking_stop, linking_iteration}
+use Rattle.image_rows.proofs.Chains.{table_chain, linking_start, linking_end, linking_stop, linking_iteration}
 use Rattle.image_rows.proofs.link_all.Goals as goal
 
 pub loop-i-init : goal.loop-i-init

@@ -1,6 +1,5 @@
-use Rattle.basics.proofs.Kit.{◌≡◌, refl, ◌-◌, length, length-set, arith}
-use Rattle.basics.proofs.Facts.{lie}
-use Rattle.image_rows.proofs.Chains.{table_chain, Linking, linking_start, linking_end, linking_stop, linking_iteration}
+use Rattle.basics.proofs.Kit.{◌≡◌, ◌-◌, length}
+use Rattle.image_rows.proofs.Chains.{Linking}
 use Rattle.image_rows.proofs.link_all.Given as goal
 
 abbrev pub invariant-loop-i : goal.invariant-loop-i

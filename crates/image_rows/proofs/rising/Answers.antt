@@ -1,11 +1,9 @@
 -- `image_rows::rising` meets its contract. The invariant: the answer is whether, from row i - 1 on, each row may be followed by the next one.
-use Rattle.basics.proofs.Kit.{◌≡◌, sym, ◌∙◌, ◌&&◌, ◌≤◌, ◌-◌, arith}
+use Rattle.basics.proofs.Kit.{sym, ◌∙◌, arith}
 use Rattle.image_rows.proofs.Places.{rising_none, rising_first, rising_marked, rising_stop, rising_iteration}
 use Rattle.basics.proofs.Iterations.{pair_end}
-use Rattle.image_rows.specs.Columns.{row_at, rows_in}
-use Rattle.basics.specs.Lists.{tab}
-use Rattle.image_rows.specs.Rows.{follows, starts_well}
-use Rattle.basics.specs.Basics.{paired}
+use Rattle.image_rows.specs.Columns.{row_at}
+use Rattle.image_rows.specs.Rows.{follows}
 use Rattle.basics.proofs.Kit.{ap, not}
 use Rattle.image_rows.proofs.rising.Goals as goal
 

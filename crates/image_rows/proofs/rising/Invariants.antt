@@ -1,6 +1,4 @@
-use Rattle.basics.proofs.Kit.{◌≡◌, sym, ◌∙◌, ◌&&◌, ◌≤◌, ◌-◌, arith}
-use Rattle.image_rows.proofs.Places.{rising_none, rising_first, rising_marked, rising_stop, rising_iteration}
-use Rattle.basics.proofs.Iterations.{pair_end}
+use Rattle.basics.proofs.Kit.{◌≡◌, ◌&&◌, ◌≤◌, ◌-◌}
 use Rattle.image_rows.specs.Columns.{row_at, rows_in}
 use Rattle.basics.specs.Lists.{tab}
 use Rattle.image_rows.specs.Rows.{follows, starts_well}

@@ -1,10 +1,8 @@
 -- `image_rows::starts` meets its contract. The invariant: the answer is k plus the count from row i on.
 use Rattle.basics.proofs.Iterations.{tab_whole, count_yes, count_not, count_end}
 use Rattle.basics.proofs.Searches.{tab_next, tab_none}
-use Rattle.basics.specs.Basics.{how_many}
 use Rattle.image_rows.specs.Chains.{is_start, starts}
-use Rattle.basics.specs.Lists.{tab}
-use Rattle.basics.proofs.Kit.{◌≡◌, sym, ◌∙◌, ⊎_elim, ◌+◌, ◌≤◌, ◌-◌, get_or, arith}
+use Rattle.basics.proofs.Kit.{sym, ◌∙◌, get_or, arith}
 use Rattle.image_rows.proofs.starts.Goals.{then-is_start, else-is_start}
 use Rattle.image_rows.proofs.starts.Goals as goal
 

@@ -1,9 +1,7 @@
-use Rattle.basics.proofs.Iterations.{tab_whole, count_yes, count_not, count_end}
-use Rattle.basics.proofs.Searches.{tab_next, tab_none}
 use Rattle.basics.specs.Basics.{how_many}
 use Rattle.image_rows.specs.Chains.{is_start, starts}
 use Rattle.basics.specs.Lists.{tab}
-use Rattle.basics.proofs.Kit.{◌≡◌, sym, ◌∙◌, ⊎_elim, ◌+◌, ◌≤◌, ◌-◌, get_or, arith}
+use Rattle.basics.proofs.Kit.{◌≡◌, ◌+◌, ◌≤◌, ◌-◌, get_or}
 use Rattle.image_rows.proofs.starts.Given as goal
 
 abbrev pub invariant-loop-i : goal.invariant-loop-i

@@ -1,7 +1,7 @@
 -- `image_rows::statements` meets its contract: where numbers are distinct the two tests are those of the definition (`statements_tests`).
 use Rattle.image_rows.proofs.Order.{statements_tests}
 use Rattle.image_rows.proofs.Chains.{empty_table}
-use Rattle.basics.proofs.Kit.{sym, ◌∙◌, not-true, not-false, rules, arith}
+use Rattle.basics.proofs.Kit.{sym, ◌∙◌, arith}
 use Rattle.image_rows.proofs.statements.Goals as goal
 
 pub link_all-requires : goal.link_all-requires

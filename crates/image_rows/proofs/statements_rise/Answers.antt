@@ -2,9 +2,8 @@
 use Rattle.basics.proofs.Iterations.{tab_whole, all_yes, all_not, all_end}
 use Rattle.basics.proofs.Searches.{tab_next, tab_none}
 use Rattle.image_rows.specs.Chains.{is_next, statements_rise}
-use Rattle.basics.specs.Lists.{tab}
 use Rattle.basics.specs.Basics.{all}
-use Rattle.basics.proofs.Kit.{◌≡◌, sym, ap, ◌∙◌, ◌-◌, not-true, not-false, arith}
+use Rattle.basics.proofs.Kit.{sym, ap, ◌∙◌, arith}
 use Rattle.image_rows.proofs.statements_rise.Goals as goal
 
 pub loop-i-init : goal.loop-i-init

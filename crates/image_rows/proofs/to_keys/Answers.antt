@@ -1,6 +1,6 @@
 -- `image_rows::to_keys` meets its contract. The invariant: each of the first i keys is its number plus 1.
 use Rattle.image_rows.proofs.Keys.{one_key}
-use Rattle.basics.proofs.Kit.{◌≡◌, refl, ℕ, ◌+◌, ◌≤◌, ◌<◌, ◌-◌, length, get_or, length-set, arith}
+use Rattle.basics.proofs.Kit.{refl, length-set, arith}
 use Rattle.image_rows.proofs.to_keys.Goals as goal
 
 pub overflow_cast-keys : goal.overflow_cast-keys

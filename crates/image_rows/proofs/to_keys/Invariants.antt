@@ -1,5 +1,4 @@
-use Rattle.image_rows.proofs.Keys.{one_key}
-use Rattle.basics.proofs.Kit.{◌≡◌, refl, ℕ, ◌+◌, ◌≤◌, ◌<◌, ◌-◌, length, get_or, length-set, arith}
+use Rattle.basics.proofs.Kit.{◌≡◌, ℕ, ◌+◌, ◌≤◌, ◌<◌, ◌-◌, length, get_or}
 use Rattle.image_rows.proofs.to_keys.Given as goal
 
 abbrev pub invariant-loop-i : goal.invariant-loop-i

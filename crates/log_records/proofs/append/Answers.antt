@@ -1,5 +1,5 @@
 -- `log_records::append` meets its contract: what is lent is just the record's bytes, and its two stores are the record (`two_stores`).
-use Rattle.basics.proofs.Kit.{◌∙◌, length-append, length-take, length-drop, rules, arith}
+use Rattle.basics.proofs.Kit.{◌∙◌, length-append, length-take, length-drop, arith}
 use Rattle.log_records.specs.Entries.{change_is}
 use Rattle.log_records.proofs.Spelling.{size_of_change, length_encoded}
 use Rattle.log_records.proofs.Stores.{two_stores}
@@ -14,10 +14,10 @@ slice_bounds-put_behind-start c = omega (arith, c.change_size.ensures, change_tw
 
 pub put_behind-first-requires : goal.put_behind-first-requires
 put_behind-first-requires c = record {
-      fits = c.requires.fits;
-      told = c.requires.told;
-      size = simp (length-take, length-drop) (omega (arith, c.change_size.ensures, change_two c.args.c, c.requires.room));
-    }
+  fits = c.requires.fits;
+  told = c.requires.told;
+  size = simp (length-take, length-drop) (omega (arith, c.change_size.ensures, change_two c.args.c, c.requires.room));
+}
 
 pub slice_bounds-put_first-end : goal.slice_bounds-put_first-end
 slice_bounds-put_first-end c = simp (length-append, length-take, length-drop) (omega (arith, c.put_behind-first.auto.part, c.change_size.ensures, change_two c.args.c, c.requires.room))

@@ -1,5 +1,5 @@
 -- `log_records::append_mark` meets its contract: as `append`.
-use Rattle.basics.proofs.Kit.{◌∙◌, length-append, length-take, length-drop, rules, arith}
+use Rattle.basics.proofs.Kit.{◌∙◌, length-append, length-take, length-drop, arith}
 use Rattle.log_records.specs.Records.{mark_of}
 use Rattle.log_records.specs.Entries.{mark_size}
 use Rattle.log_records.proofs.Spelling.{mark_size_lem, length_encoded}
@@ -17,9 +17,9 @@ slice_bounds-put_mark_behind-start c = omega (arith, c.mark_size.ensures, c.requ
 pub put_mark_behind-first-requires : goal.put_mark_behind-first-requires
 unfolding mark_size
 put_mark_behind-first-requires c = record {
-      fits = c.requires.fits;
-      size = simp (length-take, length-drop) (omega (arith, c.mark_size.ensures, c.requires.room));
-    }
+  fits = c.requires.fits;
+  size = simp (length-take, length-drop) (omega (arith, c.mark_size.ensures, c.requires.room));
+}
 
 pub slice_bounds-put_first-end : goal.slice_bounds-put_first-end
 unfolding mark_size

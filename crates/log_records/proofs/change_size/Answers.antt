@@ -1,5 +1,5 @@
 -- `log_records::change_size` meets its contract, kind by kind.
-use Rattle.basics.proofs.Kit.{sym, ap, subst, rules, arith}
+use Rattle.basics.proofs.Kit.{sym, ap, subst, arith}
 use Rattle.log_records.specs.Entries.{Small, change_size}
 use Rattle.log_records.proofs.change_size.Goals as goal
 

@@ -1,11 +1,10 @@
 -- `log_records::check_log` meets its contract: a walk along the records (`walk_next`), to the end or to what is no record.
-use Rattle.basics.proofs.Kit.{◌≡◌, sym, ◌∙◌, ◌≤◌, ◌-◌, length, drop, arith}
+use Rattle.basics.proofs.Kit.{sym, ◌∙◌, arith}
 use Rattle.block_forms.specs.Tuple.{AllBytes}
 use Rattle.block_forms.proofs.Spelled.{all_bytes}
 use Rattle.log_records.specs.Records.{read_log}
-use Rattle.log_records.specs.Entries.{log_end}
 use Rattle.log_records.proofs.Spelling.{two_bytes}
-use Rattle.log_records.proofs.Walks.{Next, small_entry, walk_next, walk_end, walk_bad, end_from, end_start, end_turn, end_whole, end_bad}
+use Rattle.log_records.proofs.Walks.{Next, small_entry, walk_next, walk_end, walk_bad, end_start, end_turn, end_whole, end_bad}
 use Rattle.log_records.proofs.check_log.Goals as goal
 
 -- what stands there has a size

@@ -1,10 +1,7 @@
-use Rattle.basics.proofs.Kit.{◌≡◌, sym, ◌∙◌, ◌≤◌, ◌-◌, length, drop, arith}
-use Rattle.block_forms.specs.Tuple.{AllBytes}
-use Rattle.block_forms.proofs.Spelled.{all_bytes}
+use Rattle.basics.proofs.Kit.{◌≡◌, ◌≤◌, ◌-◌, length, drop}
 use Rattle.log_records.specs.Records.{read_log}
 use Rattle.log_records.specs.Entries.{log_end}
-use Rattle.log_records.proofs.Spelling.{two_bytes}
-use Rattle.log_records.proofs.Walks.{Next, small_entry, walk_next, walk_end, walk_bad, end_from, end_start, end_turn, end_whole, end_bad}
+use Rattle.log_records.proofs.Walks.{end_from}
 use Rattle.log_records.proofs.check_log.Given as goal
 
 abbrev pub invariant-loop-e : goal.invariant-loop-e

@@ -1,5 +1,5 @@
 -- `log_records::clear` meets its contract. The invariant: zeros over the first i bytes.
-use Rattle.basics.proofs.Kit.{◌≡◌, refl, sym, ap, ◌∙◌, ◌≤◌, ◌-◌, length, length-set, arith}
+use Rattle.basics.proofs.Kit.{◌≡◌, refl, sym, ap, ◌∙◌, length, length-set, arith}
 use Rattle.basics.specs.Lists.{over}
 use Rattle.basics.proofs.Overs.{over_nil}
 use Rattle.block_forms.specs.Spell.{zeros}

@@ -1,9 +1,6 @@
-use Rattle.basics.proofs.Kit.{◌≡◌, refl, sym, ap, ◌∙◌, ◌≤◌, ◌-◌, length, length-set, arith}
+use Rattle.basics.proofs.Kit.{◌≡◌, ◌≤◌, ◌-◌, length}
 use Rattle.basics.specs.Lists.{over}
-use Rattle.basics.proofs.Overs.{over_nil}
 use Rattle.block_forms.specs.Spell.{zeros}
-use Rattle.block_forms.proofs.Spelled.{length_zeros}
-use Rattle.log_records.proofs.Stores.{over_whole, zero_put}
 use Rattle.log_records.proofs.clear.Given as goal
 
 abbrev pub invariant-loop-i : goal.invariant-loop-i

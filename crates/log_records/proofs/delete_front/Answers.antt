@@ -1,5 +1,5 @@
 -- `log_records::delete_front` meets its contract: as a tuple without payload.
-use Rattle.basics.proofs.Kit.{sym, ap, ap₂, ◌+◌, ◌*◌, ◌%◌, ◌/◌, arith, rules}
+use Rattle.basics.proofs.Kit.{sym, ap, ap₂, ◌+◌, ◌*◌, ◌%◌, ◌/◌, arith}
 use Rattle.block_forms.specs.Tuple.{AllBytes}
 use Rattle.block_forms.proofs.Spelled.{all_bytes}
 use Rattle.log_records.proofs.Fronts.{PlaceFront, delete_none, delete_some}

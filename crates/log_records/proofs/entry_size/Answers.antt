@@ -1,5 +1,5 @@
 -- `log_records::entry_size` meets its contract, by what stands there.
-use Rattle.basics.proofs.Kit.{sym, ap, ◌∙◌, subst, rules}
+use Rattle.basics.proofs.Kit.{sym, ap, ◌∙◌, subst}
 use Rattle.log_records.specs.Entries.{SmallEntry, entry_size}
 use Rattle.log_records.proofs.entry_size.Goals as goal
 

@@ -1,5 +1,5 @@
 -- `log_records::front` meets its contract: the first byte's kind decides what is read (`front_going`).
-use Rattle.basics.proofs.Kit.{refl, sym, ◌∙◌, ⊎_elim, inl, inr, arith, rules}
+use Rattle.basics.proofs.Kit.{refl, sym, ◌∙◌, inl, inr, arith}
 use Rattle.block_forms.specs.Tuple.{AllBytes}
 use Rattle.block_forms.proofs.Spelled.{all_bytes}
 use Rattle.log_records.proofs.Fronts.{five_six, other_none, front_end, front_going}

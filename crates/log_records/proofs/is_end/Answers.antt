@@ -1,5 +1,5 @@
 -- `log_records::is_end` meets its contract.
-use Rattle.basics.proofs.Kit.{sym, ap, rules}
+use Rattle.basics.proofs.Kit.{sym, ap}
 use Rattle.log_records.specs.Entries.{is_end}
 use Rattle.log_records.proofs.is_end.Goals as goal
 

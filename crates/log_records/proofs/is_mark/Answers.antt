@@ -1,5 +1,5 @@
 -- `log_records::is_mark` meets its contract.
-use Rattle.basics.proofs.Kit.{sym, ap, rules}
+use Rattle.basics.proofs.Kit.{sym, ap}
 use Rattle.log_records.specs.Entries.{mark_in}
 use Rattle.log_records.proofs.is_mark.Goals as goal
 

@@ -1,11 +1,10 @@
 -- `log_records::last_mark` meets its contract: a walk along the records; each mark of the level takes the place of the one before (`mark_taken`).
-use Rattle.basics.proofs.Kit.{◌≡◌, sym, ◌∙◌, ⊎_elim, ◌≤◌, ◌-◌, length, drop, arith}
+use Rattle.basics.proofs.Kit.{sym, ◌∙◌, arith}
 use Rattle.block_forms.specs.Tuple.{AllBytes}
 use Rattle.block_forms.proofs.Spelled.{all_bytes}
 use Rattle.log_records.specs.Records.{read_log}
-use Rattle.log_records.specs.Entries.{last_mark}
 use Rattle.log_records.proofs.Spelling.{two_bytes}
-use Rattle.log_records.proofs.Walks.{Next, small_entry, walk_next, walk_end, walk_bad, mark_from, mark_start, mark_taken, mark_passed, mark_end, mark_bad}
+use Rattle.log_records.proofs.Walks.{Next, small_entry, walk_next, walk_end, walk_bad, mark_start, mark_taken, mark_passed, mark_end, mark_bad}
 use Rattle.log_records.proofs.last_mark.Goals.{then-is_mark, else-is_mark}
 use Rattle.log_records.proofs.last_mark.Goals as goal
 

@@ -1,10 +1,7 @@
-use Rattle.basics.proofs.Kit.{◌≡◌, sym, ◌∙◌, ⊎_elim, ◌≤◌, ◌-◌, length, drop, arith}
-use Rattle.block_forms.specs.Tuple.{AllBytes}
-use Rattle.block_forms.proofs.Spelled.{all_bytes}
+use Rattle.basics.proofs.Kit.{◌≡◌, ◌≤◌, ◌-◌, length, drop}
 use Rattle.log_records.specs.Records.{read_log}
 use Rattle.log_records.specs.Entries.{last_mark}
-use Rattle.log_records.proofs.Spelling.{two_bytes}
-use Rattle.log_records.proofs.Walks.{Next, small_entry, walk_next, walk_end, walk_bad, mark_from, mark_start, mark_taken, mark_passed, mark_end, mark_bad}
+use Rattle.log_records.proofs.Walks.{mark_from}
 use Rattle.log_records.proofs.last_mark.Given as goal
 
 abbrev pub invariant-loop-e : goal.invariant-loop-e

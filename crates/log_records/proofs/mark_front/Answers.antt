@@ -1,5 +1,5 @@
 -- `log_records::mark_front` meets its contract: the tests are what a mark asks of its bytes (`MarkFront`).
-use Rattle.basics.proofs.Kit.{◌≡◌, ◌∙◌, sym, ap, ap₂, ◌+◌, ◌*◌, ◌%◌, ◌/◌, arith, rules}
+use Rattle.basics.proofs.Kit.{◌≡◌, ◌∙◌, sym, ap, ap₂, ◌+◌, ◌*◌, ◌%◌, ◌/◌, arith}
 use Rattle.block_forms.specs.Tuple.{AllBytes}
 use Rattle.block_forms.proofs.Spelled.{all_bytes}
 use Rattle.block_bits.specs.Bits.{bits_in, field}

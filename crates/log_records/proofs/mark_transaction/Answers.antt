@@ -1,5 +1,5 @@
 -- `log_records::mark_transaction` meets its contract: a field of what is left.
-use Rattle.basics.proofs.Kit.{◌∙◌, ap, ◌+◌, ◌*◌, rules}
+use Rattle.basics.proofs.Kit.{◌∙◌, ap, ◌+◌, ◌*◌}
 use Rattle.block_bits.specs.Bits.{bits_in, field}
 use Rattle.log_records.proofs.Stores.{rest_part}
 use Rattle.log_records.proofs.mark_transaction.Goals as goal

@@ -1,5 +1,5 @@
 -- `log_records::put_behind` meets its contract, change by change.
-use Rattle.basics.proofs.Kit.{◌≡◌, sym, ap, ◌∙◌, subst, List, ℕ, rules}
+use Rattle.basics.proofs.Kit.{◌≡◌, sym, ap, ◌∙◌, subst, List, ℕ}
 use Rattle.log_records.specs.Records.{encode_record}
 use Rattle.log_records.specs.Entries.{change_is, ChangePart}
 use Rattle.log_records.specs.declared.Change.{Change}

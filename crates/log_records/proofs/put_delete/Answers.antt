@@ -1,5 +1,5 @@
 -- `log_records::put_delete` meets its contract: the place fills what is lent (`over_whole`).
-use Rattle.basics.proofs.Kit.{arith, rules}
+use Rattle.basics.proofs.Kit.{arith}
 use Rattle.block_forms.specs.Numbers.{be4}
 use Rattle.log_records.specs.Bytes.{place_rest}
 use Rattle.log_records.proofs.Stores.{over_whole}

@@ -1,5 +1,4 @@
 -- `log_records::put_first` meets its contract: the one byte that it is lent (`one_set`).
-use Rattle.basics.proofs.Kit.{rules}
 use Rattle.log_records.proofs.Stores.{one_set}
 use Rattle.log_records.proofs.put_first.Goals as goal
 

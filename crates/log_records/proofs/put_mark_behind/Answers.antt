@@ -1,5 +1,5 @@
 -- `log_records::put_mark_behind` meets its contract: the head's bytes, then the transactions' (`mark_put`).
-use Rattle.basics.proofs.Kit.{ap, sym, ◌∙◌, ◌∷◌, List, ℕ, ◌+◌, ◌*◌, ◌%◌, ◌/◌, length, length-append, length-set, length-take, length-drop, rules, arith}
+use Rattle.basics.proofs.Kit.{ap, sym, ◌∙◌, ◌∷◌, List, ℕ, ◌+◌, ◌*◌, ◌%◌, ◌/◌, length, length-append, length-set, length-take, length-drop, arith}
 use Rattle.log_records.specs.Entries.{mark_size}
 use Rattle.log_records.proofs.Bytewise.{mark_bytes_lem}
 use Rattle.log_records.proofs.Stores.{mark_put}
@@ -24,9 +24,9 @@ slice_bounds-put_transactions-start c = omega (arith, simp length-set at c.put4.
 pub put_transactions-requires : goal.put_transactions-requires
 unfolding mark_size
 put_transactions-requires c = record {
-      count = c.requires.fits.count;
-      size = simp (length-take, length-drop) (omega (arith, simp length-set at c.put4.auto.block, c.requires.size));
-    }
+  count = c.requires.fits.count;
+  size = simp (length-take, length-drop) (omega (arith, simp length-set at c.put4.auto.block, c.requires.size));
+}
 
 pub shape_of-part : goal.shape_of-part
 unfolding mark_size

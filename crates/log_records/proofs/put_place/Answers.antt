@@ -1,5 +1,5 @@
 -- `log_records::put_place` meets its contract: three bytes, then the key's four (`place_put`).
-use Rattle.basics.proofs.Kit.{◌∙◌, ◌+◌, ◌*◌, ◌%◌, ◌/◌, length-set, rules, arith}
+use Rattle.basics.proofs.Kit.{◌∙◌, ◌+◌, ◌*◌, ◌%◌, ◌/◌, length-set, arith}
 use Rattle.log_records.proofs.Stores.{place_put}
 use Rattle.log_records.proofs.put_place.Goals as goal
 

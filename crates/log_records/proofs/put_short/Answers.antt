@@ -1,5 +1,5 @@
 -- `log_records::put_short` meets its contract: one byte stands behind the first (`one_set`).
-use Rattle.basics.proofs.Kit.{◌%◌, rules}
+use Rattle.basics.proofs.Kit.{◌%◌}
 use Rattle.log_records.proofs.Stores.{one_set}
 use Rattle.log_records.proofs.put_short.Goals as goal
 

@@ -1,5 +1,5 @@
 -- `log_records::put_transactions` meets its contract. The invariant: the bits of the first i transactions are over the first bits.
-use Rattle.basics.proofs.Kit.{◌≡◌, refl, sym, ap, ◌∙◌, ◌≤◌, ◌-◌, length, take, take_all, arith}
+use Rattle.basics.proofs.Kit.{◌≡◌, refl, sym, ap, ◌∙◌, take, take_all, arith}
 use Rattle.basics.specs.Lists.{over}
 use Rattle.basics.proofs.Overs.{over_nil}
 use Rattle.block_bits.specs.Bits.{bits_in}
@@ -16,10 +16,10 @@ loop-i-init c = (omega arith, refl, sym (over_nil (bits_in c.args.part.now) 0))
 
 pub put_bits-requires : goal.put_bits-requires
 put_bits-requires c = record {
-      word = omega arith;
-      within = omega (arith, c.loop-i-test.true, c.loop-i.invariant.1, c.requires.size);
-      small = omega (arith, c.loop-i-test.true, c.requires.count);
-    }
+  word = omega arith;
+  within = omega (arith, c.loop-i-test.true, c.loop-i.invariant.1, c.requires.size);
+  small = omega (arith, c.loop-i-test.true, c.requires.count);
+}
 
 pub overflow_add-i : goal.overflow_add-i
 overflow_add-i c = omega (arith, c.loop-i-test.true, c.requires.count)

@@ -1,5 +1,4 @@
 -- `log_records::put_tuple` meets its contract: the place, then the payload (`tuple_put`).
-use Rattle.basics.proofs.Kit.{rules}
 use Rattle.log_records.proofs.Stores.{tuple_put}
 use Rattle.log_records.proofs.put_tuple.Goals as goal
 

@@ -1,5 +1,5 @@
 -- `log_records::short_front` meets its contract: two bytes, whatever they are.
-use Rattle.basics.proofs.Kit.{◌≡◌, sym, ◌∙◌, ⊎_elim, arith, rules}
+use Rattle.basics.proofs.Kit.{◌≡◌, sym, ◌∙◌, ⊎_elim, arith}
 use Rattle.block_forms.specs.Tuple.{AllBytes}
 use Rattle.block_forms.proofs.Spelled.{all_bytes}
 use Rattle.log_records.proofs.Fronts.{short_none, open_some, commit_some, abort_some}

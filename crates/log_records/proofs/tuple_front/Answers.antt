@@ -1,5 +1,5 @@
 -- `log_records::tuple_front` meets its contract: the tests are what a record asks of its first eight bytes (`PlaceFront`).
-use Rattle.basics.proofs.Kit.{◌≡◌, ◌+◌, ◌*◌, ◌%◌, ◌/◌, sym, ap, ap₂, arith, rules}
+use Rattle.basics.proofs.Kit.{◌≡◌, ◌+◌, ◌*◌, ◌%◌, ◌/◌, sym, ap, ap₂, arith}
 use Rattle.block_forms.specs.Tuple.{AllBytes}
 use Rattle.block_forms.proofs.Spelled.{all_bytes}
 use Rattle.log_records.specs.Bytes.{length_of}

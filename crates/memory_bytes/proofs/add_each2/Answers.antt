@@ -1,7 +1,6 @@
 -- `memory_bytes::add_each2` meets its contract. The invariant: the numbers from s up to j are d more, modulo 65,536, and no other byte differs.
 use Rattle.memory_bytes.proofs.Moves.{add_start, add_iteration, add_end}
-use Rattle.memory_bytes.specs.Bytes.{Added}
-use Rattle.basics.proofs.Kit.{refl, ◌≤◌, ◌-◌, rules, arith}
+use Rattle.basics.proofs.Kit.{refl, arith}
 use Rattle.memory_bytes.proofs.add_each2.Goals as goal
 
 pub loop-j-init : goal.loop-j-init
@@ -15,12 +14,12 @@ put2-requires c = omega (arith, c.loop-j.invariant.1.1.apart.size)
 
 pub loop-j-preserved : goal.loop-j-preserved
 loop-j-preserved c = (
-      omega arith,
-      (
-        omega arith,
-        add_iteration c.loop-j.j c.plus2-x.result c.loop-j.invariant.1.1 (omega arith) c.get2.ensures c.plus2-x.ensures c.put2.ensures,
-      ),
-    )
+  omega arith,
+  (
+    omega arith,
+    add_iteration c.loop-j.j c.plus2-x.result c.loop-j.invariant.1.1 (omega arith) c.get2.ensures c.plus2-x.ensures c.put2.ensures,
+  ),
+)
 
 pub shape_of-m : goal.shape_of-m
 shape_of-m c = c.loop-j.invariant.1.1.apart.size

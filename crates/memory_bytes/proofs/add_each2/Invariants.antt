@@ -1,6 +1,5 @@
-use Rattle.memory_bytes.proofs.Moves.{add_start, add_iteration, add_end}
 use Rattle.memory_bytes.specs.Bytes.{Added}
-use Rattle.basics.proofs.Kit.{refl, ◌≤◌, ◌-◌, rules, arith}
+use Rattle.basics.proofs.Kit.{◌≤◌, ◌-◌}
 use Rattle.memory_bytes.proofs.add_each2.Given as goal
 
 abbrev pub invariant-loop-j : goal.invariant-loop-j

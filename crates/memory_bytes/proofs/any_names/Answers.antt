@@ -1,8 +1,6 @@
 -- `memory_bytes::any_names` meets its contract. The invariant (`AnyFrom`): the answer is hit, or whether one of the numbers from j on is s modulo 1,024.
-use Rattle.memory_bytes.proofs.Scans.{AnyFrom, any_starts, any_iterates, any_ends}
-use Rattle.memory_bytes.specs.Columns.{names}
-use Rattle.memory_bytes.specs.Bytes.{column2}
-use Rattle.basics.proofs.Kit.{◌-◌, arith}
+use Rattle.memory_bytes.proofs.Scans.{any_starts, any_iterates, any_ends}
+use Rattle.basics.proofs.Kit.{arith}
 use Rattle.memory_bytes.proofs.any_names.Goals as goal
 
 pub loop-j-init : goal.loop-j-init

@@ -1,6 +1,6 @@
 -- `memory_bytes::clear` meets its contract. The invariant: the first j of the n bytes are zero, and no other byte differs.
-use Rattle.memory_bytes.proofs.Moves.{Writing, write_start, write_iteration, write_end}
-use Rattle.basics.proofs.Kit.{sym, ℕ, ◌≤◌, ◌-◌, length-replicate, replicate, get_or-replicate, arith}
+use Rattle.memory_bytes.proofs.Moves.{write_start, write_iteration, write_end}
+use Rattle.basics.proofs.Kit.{sym, ℕ, length-replicate, replicate, get_or-replicate, arith}
 use Rattle.memory_bytes.proofs.clear.Goals as goal
 
 pub loop-j-init : goal.loop-j-init

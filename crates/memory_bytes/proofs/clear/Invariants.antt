@@ -1,5 +1,5 @@
-use Rattle.memory_bytes.proofs.Moves.{Writing, write_start, write_iteration, write_end}
-use Rattle.basics.proofs.Kit.{sym, ℕ, ◌≤◌, ◌-◌, length-replicate, replicate, get_or-replicate, arith}
+use Rattle.memory_bytes.proofs.Moves.{Writing}
+use Rattle.basics.proofs.Kit.{◌≤◌, ◌-◌, replicate}
 use Rattle.memory_bytes.proofs.clear.Given as goal
 
 abbrev pub invariant-loop-j : goal.invariant-loop-j

@@ -1,5 +1,4 @@
 -- `memory_bytes::copy16` meets its contract: what is read whole is what is written (`copied_over`).
-use Rattle.basics.proofs.Kit.{rules}
 use Rattle.memory_bytes.proofs.Bytes.{copied_over}
 use Rattle.memory_bytes.proofs.copy16.Goals as goal
 

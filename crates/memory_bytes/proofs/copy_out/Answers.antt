@@ -1,8 +1,8 @@
 -- `memory_bytes::copy_out` meets its contract. The invariant: the first j bytes of out are those of m from a on, and all others are as at entry.
-use Rattle.memory_bytes.proofs.Moves.{Writing, write_start, write_front, write_end}
+use Rattle.memory_bytes.proofs.Moves.{write_start, write_front, write_end}
 use Rattle.memory_bytes.proofs.Bytes.{length_bytes, get_d_bytes, front_wrote}
 use Rattle.memory_bytes.specs.Bytes.{bytes}
-use Rattle.basics.proofs.Kit.{◌≡◌, sym, ap, ◌∙◌, ◌++◌, ℕ, ◌≤◌, ◌-◌, length, drop, arith}
+use Rattle.basics.proofs.Kit.{◌≡◌, sym, ap, ◌∙◌, ◌++◌, ℕ, length, drop, arith}
 use Rattle.memory_bytes.proofs.copy_out.Goals as goal
 
 pub loop-j-init : goal.loop-j-init

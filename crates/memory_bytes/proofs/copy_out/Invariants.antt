@@ -1,7 +1,6 @@
-use Rattle.memory_bytes.proofs.Moves.{Writing, write_start, write_front, write_end}
-use Rattle.memory_bytes.proofs.Bytes.{length_bytes, get_d_bytes, front_wrote}
+use Rattle.memory_bytes.proofs.Moves.{Writing}
 use Rattle.memory_bytes.specs.Bytes.{bytes}
-use Rattle.basics.proofs.Kit.{◌≡◌, sym, ap, ◌∙◌, ◌++◌, ℕ, ◌≤◌, ◌-◌, length, drop, arith}
+use Rattle.basics.proofs.Kit.{◌≤◌, ◌-◌}
 use Rattle.memory_bytes.proofs.copy_out.Given as goal
 
 abbrev pub invariant-loop-j : goal.invariant-loop-j

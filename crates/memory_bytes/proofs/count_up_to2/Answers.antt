@@ -1,10 +1,8 @@
 -- `memory_bytes::count_up_to2` meets its contract. The invariant: the answer is k plus the count from j on, and k is at most j - s, so it fits 16 bits.
 use Rattle.basics.proofs.Searches.{count_iteration, count_end, one_most}
 use Rattle.memory_bytes.specs.Columns.{up_to}
-use Rattle.basics.specs.Lists.{tab}
 use Rattle.memory_bytes.specs.Bytes.{column2}
-use Rattle.basics.specs.Basics.{how_many}
-use Rattle.basics.proofs.Kit.{◌≡◌, ◌+◌, ◌≤◌, ◌-◌, leb, arith}
+use Rattle.basics.proofs.Kit.{◌≤◌, leb, arith}
 use Rattle.memory_bytes.proofs.count_up_to2.Goals as goal
 
 pub overflow_add-k : goal.overflow_add-k

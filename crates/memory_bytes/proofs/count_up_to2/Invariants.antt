@@ -1,9 +1,8 @@
-use Rattle.basics.proofs.Searches.{count_iteration, count_end, one_most}
 use Rattle.memory_bytes.specs.Columns.{up_to}
 use Rattle.basics.specs.Lists.{tab}
 use Rattle.memory_bytes.specs.Bytes.{column2}
 use Rattle.basics.specs.Basics.{how_many}
-use Rattle.basics.proofs.Kit.{◌≡◌, ◌+◌, ◌≤◌, ◌-◌, leb, arith}
+use Rattle.basics.proofs.Kit.{◌≡◌, ◌+◌, ◌≤◌, ◌-◌}
 use Rattle.memory_bytes.proofs.count_up_to2.Given as goal
 
 abbrev pub invariant-loop-j : goal.invariant-loop-j

@@ -1,6 +1,6 @@
 -- `memory_bytes::lower` meets its contract. The invariant: the bytes from lo up to k are those w further up at entry, and all others are as at entry.
-use Rattle.memory_bytes.proofs.Moves.{Lowering, lower_start, lower_iteration, lower_end}
-use Rattle.basics.proofs.Kit.{◌≤◌, ◌-◌, arith}
+use Rattle.memory_bytes.proofs.Moves.{lower_start, lower_iteration, lower_end}
+use Rattle.basics.proofs.Kit.{arith}
 use Rattle.memory_bytes.proofs.lower.Goals as goal
 
 pub loop-k-init : goal.loop-k-init

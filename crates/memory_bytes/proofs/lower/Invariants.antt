@@ -1,5 +1,5 @@
-use Rattle.memory_bytes.proofs.Moves.{Lowering, lower_start, lower_iteration, lower_end}
-use Rattle.basics.proofs.Kit.{◌≤◌, ◌-◌, arith}
+use Rattle.memory_bytes.proofs.Moves.{Lowering}
+use Rattle.basics.proofs.Kit.{◌≤◌, ◌-◌}
 use Rattle.memory_bytes.proofs.lower.Given as goal
 
 abbrev pub invariant-loop-k : goal.invariant-loop-k

@@ -2,10 +2,8 @@
 use Rattle.memory_bytes.proofs.Scans.{any_group2}
 use Rattle.basics.proofs.Searches.{any_start, any_hit, any_pass}
 use Rattle.memory_bytes.specs.Columns.{names}
-use Rattle.basics.specs.Lists.{tab}
 use Rattle.memory_bytes.specs.Bytes.{column2}
-use Rattle.basics.specs.Basics.{any}
-use Rattle.basics.proofs.Kit.{◌≡◌, sym, ◌∙◌, ◌≤◌, ◌-◌, arith}
+use Rattle.basics.proofs.Kit.{sym, ◌∙◌, arith}
 use Rattle.memory_bytes.proofs.names16.Goals as goal
 
 pub loop-i-init : goal.loop-i-init

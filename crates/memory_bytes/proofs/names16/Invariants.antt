@@ -1,10 +1,8 @@
-use Rattle.memory_bytes.proofs.Scans.{any_group2}
-use Rattle.basics.proofs.Searches.{any_start, any_hit, any_pass}
 use Rattle.memory_bytes.specs.Columns.{names}
 use Rattle.basics.specs.Lists.{tab}
 use Rattle.memory_bytes.specs.Bytes.{column2}
 use Rattle.basics.specs.Basics.{any}
-use Rattle.basics.proofs.Kit.{◌≡◌, sym, ◌∙◌, ◌≤◌, ◌-◌, arith}
+use Rattle.basics.proofs.Kit.{◌≡◌, ◌≤◌, ◌-◌}
 use Rattle.memory_bytes.proofs.names16.Given as goal
 
 abbrev pub invariant-loop-i : goal.invariant-loop-i

@@ -1,5 +1,5 @@
 -- `memory_bytes::one_if` meets its contract, for true and for false.
-use Rattle.basics.proofs.Kit.{◌≡◌, refl, Bool, true, false, cond, rules}
+use Rattle.basics.proofs.Kit.{◌≡◌, refl, Bool, true, false, cond}
 use mir.Val.{bool_byte}
 use Rattle.memory_bytes.proofs.one_if.Goals as goal
 

@@ -1,6 +1,6 @@
 -- `memory_bytes::put4` meets its contract: the four bytes are written one after the other (`wrote4`).
 use Rattle.memory_bytes.proofs.Moves.{wrote4}
-use Rattle.basics.proofs.Kit.{length-set, rules, arith}
+use Rattle.basics.proofs.Kit.{length-set, arith}
 use Rattle.memory_bytes.proofs.put4.Goals as goal
 
 pub bounds-m-a-2 : goal.bounds-m-a-2

@@ -1,6 +1,6 @@
 -- `memory_bytes::raise` meets its contract. The invariant: the bytes from k up to hi are w further up; those below k + w and from hi + w on are as at entry.
-use Rattle.memory_bytes.proofs.Moves.{Raising, raise_start, raise_iteration, raise_end}
-use Rattle.basics.proofs.Kit.{◌≤◌, arith}
+use Rattle.memory_bytes.proofs.Moves.{raise_start, raise_iteration, raise_end}
+use Rattle.basics.proofs.Kit.{arith}
 use Rattle.memory_bytes.proofs.raise.Goals as goal
 
 pub loop-k-init : goal.loop-k-init

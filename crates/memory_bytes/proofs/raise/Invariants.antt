@@ -1,5 +1,5 @@
-use Rattle.memory_bytes.proofs.Moves.{Raising, raise_start, raise_iteration, raise_end}
-use Rattle.basics.proofs.Kit.{◌≤◌, arith}
+use Rattle.memory_bytes.proofs.Moves.{Raising}
+use Rattle.basics.proofs.Kit.{◌≤◌}
 use Rattle.memory_bytes.proofs.raise.Given as goal
 
 abbrev pub invariant-loop-k : goal.invariant-loop-k

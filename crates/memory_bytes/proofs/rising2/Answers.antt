@@ -1,9 +1,7 @@
 -- `memory_bytes::rising2` meets its contract. The invariant: the answer is whether ok is true and each number from j on is below the next one.
 use Rattle.basics.proofs.Searches.{paired_start, paired_iteration, paired_end}
-use Rattle.basics.specs.Lists.{tab}
 use Rattle.memory_bytes.specs.Bytes.{column2, le2}
-use Rattle.basics.specs.Basics.{paired}
-use Rattle.basics.proofs.Kit.{◌≡◌, ap, ◌∙◌, ◌&&◌, ◌+◌, ◌≤◌, ◌-◌, ltb, arith}
+use Rattle.basics.proofs.Kit.{◌≡◌, ap, ◌∙◌, ◌+◌, ltb, arith}
 use Rattle.memory_bytes.proofs.rising2.Goals as goal
 
 pub loop-j-init : goal.loop-j-init

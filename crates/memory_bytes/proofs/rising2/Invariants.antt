@@ -1,8 +1,7 @@
-use Rattle.basics.proofs.Searches.{paired_start, paired_iteration, paired_end}
 use Rattle.basics.specs.Lists.{tab}
-use Rattle.memory_bytes.specs.Bytes.{column2, le2}
+use Rattle.memory_bytes.specs.Bytes.{column2}
 use Rattle.basics.specs.Basics.{paired}
-use Rattle.basics.proofs.Kit.{◌≡◌, ap, ◌∙◌, ◌&&◌, ◌+◌, ◌≤◌, ◌-◌, ltb, arith}
+use Rattle.basics.proofs.Kit.{◌≡◌, ◌&&◌, ◌+◌, ◌≤◌, ◌-◌, ltb}
 use Rattle.memory_bytes.proofs.rising2.Given as goal
 
 abbrev pub invariant-loop-j : goal.invariant-loop-j

@@ -1,6 +1,6 @@
 -- `memory_bytes::write` meets its contract. The invariant: the first j bytes of src are written from a on, and no other byte differs.
-use Rattle.memory_bytes.proofs.Moves.{Writing, write_start, write_iteration, write_end}
-use Rattle.basics.proofs.Kit.{refl, ◌≤◌, ◌-◌, length, arith}
+use Rattle.memory_bytes.proofs.Moves.{write_start, write_iteration, write_end}
+use Rattle.basics.proofs.Kit.{refl, arith}
 use Rattle.memory_bytes.proofs.write.Goals as goal
 
 pub loop-j-init : goal.loop-j-init

@@ -1,5 +1,5 @@
-use Rattle.memory_bytes.proofs.Moves.{Writing, write_start, write_iteration, write_end}
-use Rattle.basics.proofs.Kit.{refl, ◌≤◌, ◌-◌, length, arith}
+use Rattle.memory_bytes.proofs.Moves.{Writing}
+use Rattle.basics.proofs.Kit.{◌≤◌, ◌-◌, length}
 use Rattle.memory_bytes.proofs.write.Given as goal
 
 abbrev pub invariant-loop-j : goal.invariant-loop-j

@@ -1,6 +1,5 @@
 -- `memory_layout::find_open` meets its contract. The invariant: the answer is i plus the place of the transaction among the entries from i on.
-use Rattle.basics.proofs.Kit.{◌≡◌, sym, ap, ◌∙◌, List, ℕ, ◌+◌, ◌≤◌, ◌-◌, zero-add, arith}
-use Rattle.memory_bytes.specs.Bytes.{le4}
+use Rattle.basics.proofs.Kit.{◌≡◌, sym, ap, ◌∙◌, List, ℕ, ◌-◌, zero-add, arith}
 use Rattle.basics.specs.Lists.{tab}
 use Rattle.memory_layout.specs.Views.{open_at, open_count}
 use Rattle.memory_layout.specs.Flat.{opens_of}
@@ -33,12 +32,12 @@ returns-then-t-transaction c = omega (arith, c.loop-i.invariant.1.1, find_here c
 
 pub loop-i-preserved : goal.loop-i-preserved
 loop-i-preserved c = (
-      c.loop-i.invariant.0,
-      (
-        omega arith,
-        omega (arith, c.loop-i.invariant.1.1, find_iteration c.args.m.now c.args.transaction c.loop-i.i c.get4-n.result (omega arith) c.get4.ensures c.if-t-transaction.false),
-      ),
-    )
+  c.loop-i.invariant.0,
+  (
+    omega arith,
+    omega (arith, c.loop-i.invariant.1.1, find_iteration c.args.m.now c.args.transaction c.loop-i.i c.get4-n.result (omega arith) c.get4.ensures c.if-t-transaction.false),
+  ),
+)
 
 pub returns : goal.returns
 returns c = omega (arith, c.loop-i.invariant.1.1, find_end c.args.m.now c.args.transaction c.loop-i.i c.get4-n.result (omega arith))

@@ -1,11 +1,8 @@
-use Rattle.basics.proofs.Kit.{◌≡◌, sym, ap, ◌∙◌, List, ℕ, ◌+◌, ◌≤◌, ◌-◌, zero-add, arith}
-use Rattle.memory_bytes.specs.Bytes.{le4}
+use Rattle.basics.proofs.Kit.{◌≡◌, ◌+◌, ◌≤◌, ◌-◌}
 use Rattle.basics.specs.Lists.{tab}
 use Rattle.memory_layout.specs.Views.{open_at, open_count}
 use Rattle.memory_layout.specs.Flat.{opens_of}
 use Rattle.memory_layout.specs.Opens.{find_open}
-use Rattle.memory_layout.proofs.Laws.{known}
-use Rattle.memory_layout.proofs.HeadLists.{find_here, find_iteration, find_end}
 use Rattle.memory_layout.proofs.find_open.Given as goal
 
 abbrev pub invariant-loop-i : goal.invariant-loop-i

@@ -1,5 +1,5 @@
 -- `memory_layout::fresh` meets its contract: `blanked` says what the six writes leave, and `blank_becomes` and `blank_in` that this is the empty store.
-use Rattle.basics.proofs.Kit.{◌∙◌, rules}
+use Rattle.basics.proofs.Kit.{◌∙◌}
 use Rattle.memory_layout.specs.Store.{fresh_flat}
 use Rattle.memory_layout.specs.Flat.{Becomes}
 use Rattle.memory_layout.proofs.Blank.{blanked, blank_becomes, blank_in}

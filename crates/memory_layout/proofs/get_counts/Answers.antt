@@ -1,6 +1,5 @@
 -- `memory_layout::get_counts` meets its contract: each number is read from its own bytes.
 use Rattle.memory_layout.specs.Views.{counts_of}
-use Rattle.basics.proofs.Kit.{rules}
 use Rattle.memory_layout.proofs.get_counts.Goals as goal
 
 pub returns : goal.returns

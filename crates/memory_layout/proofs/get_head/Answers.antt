@@ -1,5 +1,5 @@
 -- `memory_layout::get_head` meets its contract: each number is read from its own four bytes.
-use Rattle.basics.proofs.Kit.{not, eqb, rules}
+use Rattle.basics.proofs.Kit.{not, eqb}
 use Rattle.memory_layout.specs.Views.{head_of}
 use Rattle.memory_layout.proofs.get_head.Goals as goal
 

@@ -1,5 +1,5 @@
 -- `memory_layout::holds_store` meets its contract: a lemma of Refusal for each test that fails, and `last_test` for the last return.
-use Rattle.basics.proofs.Kit.{sym, ◌∙◌, not-true, not-false, rules, arith}
+use Rattle.basics.proofs.Kit.{sym, ◌∙◌, arith}
 use Rattle.memory_layout.proofs.Refusal.{too_short, unsigned, out_of_range, tables_fall, last_test, starts_at_lem}
 use Rattle.memory_layout.proofs.holds_store.Goals as goal
 

@@ -1,6 +1,5 @@
 -- `memory_layout::mark_used` meets its contract: the bit of block b is set, and no other bit changes (`mark_becomes`).
 use Rattle.memory_layout.proofs.Marks.{mark_becomes}
-use Rattle.basics.proofs.Kit.{rules}
 use Rattle.memory_layout.proofs.mark_used.Goals as goal
 
 pub returns : goal.returns

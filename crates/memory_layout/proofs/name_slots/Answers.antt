@@ -1,6 +1,5 @@
 -- `memory_layout::name_slots` meets its contract. The invariant: only the bytes of the first i slot numbers may differ from those at entry.
-use Rattle.basics.proofs.Kit.{◌+◌, ◌*◌, ◌≤◌, ◌-◌, arith}
-use Rattle.memory_bytes.specs.Bytes.{Apart}
+use Rattle.basics.proofs.Kit.{arith}
 use Rattle.memory_layout.proofs.Blank.{names_start, names_iteration}
 use Rattle.memory_layout.specs.Places.{refs_at}
 use Rattle.memory_layout.proofs.name_slots.Goals as goal

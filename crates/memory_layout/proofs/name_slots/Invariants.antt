@@ -1,6 +1,5 @@
-use Rattle.basics.proofs.Kit.{◌+◌, ◌*◌, ◌≤◌, ◌-◌, arith}
+use Rattle.basics.proofs.Kit.{◌*◌, ◌≤◌, ◌-◌}
 use Rattle.memory_bytes.specs.Bytes.{Apart}
-use Rattle.memory_layout.proofs.Blank.{names_start, names_iteration}
 use Rattle.memory_layout.specs.Places.{refs_at}
 use Rattle.memory_layout.proofs.name_slots.Given as goal
 

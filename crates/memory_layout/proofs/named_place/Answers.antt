@@ -1,5 +1,5 @@
 -- `memory_layout::named_place` meets its contract, by arithmetic from the capacity that `get4` answers.
-use Rattle.basics.proofs.Kit.{rules, arith}
+use Rattle.basics.proofs.Kit.{arith}
 use Rattle.memory_layout.specs.Views.{head_of}
 use Rattle.memory_layout.proofs.named_place.Goals as goal
 

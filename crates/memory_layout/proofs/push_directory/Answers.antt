@@ -1,5 +1,5 @@
 -- `memory_layout::push_directory` meets its contract: the number is written behind the list, then the count (`directory_push`).
-use Rattle.basics.proofs.Kit.{rules, arith}
+use Rattle.basics.proofs.Kit.{arith}
 use Rattle.memory_layout.proofs.Laws.{known}
 use Rattle.memory_layout.proofs.HeadLists.{directory_push}
 use Rattle.memory_layout.proofs.push_directory.Goals as goal

@@ -1,5 +1,5 @@
 -- `memory_layout::push_named` meets its contract: the number is written behind the list, then the count (`named_push`).
-use Rattle.basics.proofs.Kit.{rules, arith}
+use Rattle.basics.proofs.Kit.{arith}
 use Rattle.memory_layout.specs.Views.{head_of}
 use Rattle.memory_layout.proofs.Laws.{known}
 use Rattle.memory_layout.proofs.HeadLists.{named_push}

@@ -1,5 +1,5 @@
 -- `memory_layout::push_open` meets its contract: the entry is written behind the list, then the count (`open_push`).
-use Rattle.basics.proofs.Kit.{rules, arith}
+use Rattle.basics.proofs.Kit.{arith}
 use Rattle.memory_layout.proofs.Laws.{known}
 use Rattle.memory_layout.proofs.HeadLists.{open_push}
 use Rattle.memory_layout.proofs.push_open.Goals as goal

@@ -1,6 +1,6 @@
 -- `memory_layout::put_head` meets its contract: seven numbers are written one after the other, and no other byte (`head_put`).
 use Rattle.memory_layout.proofs.HeadLists.{head_put}
-use Rattle.basics.proofs.Kit.{rules, arith}
+use Rattle.basics.proofs.Kit.{arith}
 use Rattle.memory_layout.proofs.put_head.Goals as goal
 
 pub returns : goal.returns

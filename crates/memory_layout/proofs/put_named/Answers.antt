@@ -1,5 +1,5 @@
 -- `memory_layout::put_named` meets its contract: the two bytes of entry i are written, at the place that `named_place` answers (`named_set`).
-use Rattle.basics.proofs.Kit.{rules, arith}
+use Rattle.basics.proofs.Kit.{arith}
 use Rattle.memory_layout.specs.Views.{head_of}
 use Rattle.memory_layout.proofs.Laws.{known}
 use Rattle.memory_layout.proofs.HeadLists.{named_set}

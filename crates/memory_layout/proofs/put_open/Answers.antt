@@ -1,5 +1,5 @@
 -- `memory_layout::put_open` meets its contract: the four bytes of entry i are written (`open_set`).
-use Rattle.basics.proofs.Kit.{rules, arith}
+use Rattle.basics.proofs.Kit.{arith}
 use Rattle.memory_layout.proofs.Laws.{known}
 use Rattle.memory_layout.proofs.HeadLists.{open_set}
 use Rattle.memory_layout.proofs.put_open.Goals as goal

@@ -1,5 +1,5 @@
 -- `memory_layout::remove_open` meets its contract: the entries behind entry i go down by one, then the count is written (`open_remove`).
-use Rattle.basics.proofs.Kit.{rules, arith}
+use Rattle.basics.proofs.Kit.{arith}
 use Rattle.memory_layout.proofs.Laws.{known}
 use Rattle.memory_layout.proofs.HeadLists.{open_remove}
 use Rattle.memory_layout.proofs.remove_open.Goals as goal

@@ -1,5 +1,5 @@
 -- `memory_layout::with_bit` meets its contract: 1 shifted by k is 2 ^ k, which is a byte since k is below 8.
-use Rattle.basics.proofs.Kit.{◌≡◌, ap, ◌∙◌, ℕ, ◌*◌, ◌%◌, ◌^◌, mod-eq_of_lt, one-mul, pow-lt, bit_or, rules}
+use Rattle.basics.proofs.Kit.{◌≡◌, ap, ◌∙◌, ℕ, ◌*◌, ◌%◌, ◌^◌, mod-eq_of_lt, one-mul, pow-lt, bit_or}
 use Rattle.memory_layout.proofs.with_bit.Goals as goal
 
 pub returns : goal.returns

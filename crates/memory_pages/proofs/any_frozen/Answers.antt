@@ -1,8 +1,6 @@
 -- `memory_pages::any_frozen` meets its contract. The invariant (`AnyFrom`): the answer is hit, or whether one of the numbers from j on is that of a frozen page.
-use Rattle.basics.proofs.Kit.{◌-◌, arith}
-use Rattle.memory_pages.specs.Pages.{frozen_word}
-use Rattle.memory_bytes.specs.Bytes.{column2}
-use Rattle.memory_bytes.proofs.Scans.{AnyFrom, any_starts, any_iterates, any_ends}
+use Rattle.basics.proofs.Kit.{arith}
+use Rattle.memory_bytes.proofs.Scans.{any_starts, any_iterates, any_ends}
 use Rattle.memory_pages.proofs.any_frozen.Goals as goal
 
 pub loop-j-init : goal.loop-j-init

@@ -1,7 +1,7 @@
-use Rattle.basics.proofs.Kit.{◌-◌, arith}
+use Rattle.basics.proofs.Kit.{◌-◌}
 use Rattle.memory_pages.specs.Pages.{frozen_word}
 use Rattle.memory_bytes.specs.Bytes.{column2}
-use Rattle.memory_bytes.proofs.Scans.{AnyFrom, any_starts, any_iterates, any_ends}
+use Rattle.memory_bytes.proofs.Scans.{AnyFrom}
 use Rattle.memory_pages.proofs.any_frozen.Given as goal
 
 abbrev pub invariant-loop-j : goal.invariant-loop-j

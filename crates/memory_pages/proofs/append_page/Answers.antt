@@ -1,5 +1,5 @@
 -- `memory_pages::append_page` meets its contract: an empty page is opened, then its block is written (`page_appended`); the slots stay in order (`page_order`).
-use Rattle.basics.proofs.Kit.{◌≡◌, sym, ◌∙◌, ◌*◌, ◌<◌, rules, arith}
+use Rattle.basics.proofs.Kit.{◌≡◌, sym, ◌∙◌, ◌*◌, ◌<◌, arith}
 use Rattle.memory_layout.proofs.Laws.{entries_length}
 use Rattle.memory_layout.specs.Views.{page_count, start_at}
 use Rattle.memory_layout.specs.Flat.{capacity_of, Room}

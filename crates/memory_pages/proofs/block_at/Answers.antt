@@ -1,6 +1,6 @@
 -- `memory_pages::block_at` meets its contract: the page's word modulo 4,096 is its block (`entry_block`).
 use Rattle.block_forms.specs.Limits.{block_limit}
-use Rattle.basics.proofs.Kit.{sym, ap, ◌∙◌, ℕ, ◌%◌, rules, arith}
+use Rattle.basics.proofs.Kit.{sym, ap, ◌∙◌, ℕ, ◌%◌, arith}
 use Rattle.memory_layout.proofs.Laws.{entries_length}
 use Rattle.memory_pages.proofs.Ranges.{entry_block}
 use Rattle.memory_pages.proofs.block_at.Goals as goal

@@ -1,7 +1,7 @@
 -- `memory_pages::block_word` meets its contract: the word is read at its place in the column that `blocks` answers.
 use Rattle.memory_bytes.specs.Bytes.{le2}
 use Rattle.memory_layout.proofs.Laws.{entries_length}
-use Rattle.basics.proofs.Kit.{ap, ◌∙◌, ℕ, ◌+◌, ◌*◌, rules, arith}
+use Rattle.basics.proofs.Kit.{ap, ◌∙◌, ℕ, ◌+◌, ◌*◌, arith}
 use Rattle.memory_pages.proofs.Ranges.{ranges}
 use Rattle.memory_pages.proofs.block_word.Goals as goal
 

@@ -1,5 +1,5 @@
 -- `memory_pages::close_page` meets its contract: `closed` joins what the two columns lose and the change of the tables' ends.
-use Rattle.basics.proofs.Kit.{rules, arith}
+use Rattle.basics.proofs.Kit.{arith}
 use Rattle.memory_pages.proofs.Columns.{closed}
 use Rattle.memory_pages.proofs.Ranges.{ranges}
 use Rattle.memory_pages.proofs.close_page.Goals as goal

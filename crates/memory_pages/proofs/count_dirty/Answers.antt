@@ -1,12 +1,11 @@
 -- `memory_pages::count_dirty` meets its contract. The invariant (`Counted`): the answer is k plus the count of the entries from page p on.
-use Rattle.basics.proofs.Kit.{◌≡◌, ap, ◌∙◌, cond, ℕ, ◌-◌, eqb, length, rules, arith}
-use Rattle.basics.specs.Basics.{how_many}
+use Rattle.basics.proofs.Kit.{ap, ◌∙◌, cond, ℕ, eqb, arith}
 use Rattle.basics.proofs.Searches.{one_most}
 use Rattle.memory_layout.specs.Flat.{flat_of, no_entry}
 use Rattle.memory_layout.proofs.Laws.{entries_length}
 use Rattle.memory_pages.specs.Pages.{dirty_entry}
 use Rattle.memory_pages.proofs.Ranges.{ranges}
-use Rattle.basics.proofs.Counting.{Counted, counted_start, counted_iteration, counted_end}
+use Rattle.basics.proofs.Counting.{counted_start, counted_iteration, counted_end}
 use Rattle.memory_pages.proofs.count_dirty.Goals as goal
 
 pub loop-p-init : goal.loop-p-init

@@ -1,11 +1,8 @@
-use Rattle.basics.proofs.Kit.{◌≡◌, ap, ◌∙◌, Bool, cond, ◌-◌, length, drop, rules, arith}
+use Rattle.basics.proofs.Kit.{◌≡◌, ◌-◌, length, drop}
 use Rattle.basics.specs.Basics.{how_many}
-use Rattle.basics.proofs.Searches.{one_most}
-use Rattle.memory_layout.specs.Flat.{flat_of, no_entry}
-use Rattle.memory_layout.proofs.Laws.{entries_length}
+use Rattle.memory_layout.specs.Flat.{flat_of}
 use Rattle.memory_pages.specs.Pages.{frozen_entry}
-use Rattle.memory_pages.proofs.Ranges.{ranges}
-use Rattle.basics.proofs.Counting.{Counted, counted_start, counted_iteration, counted_end}
+use Rattle.basics.proofs.Counting.{Counted}
 use Rattle.memory_pages.proofs.count_frozen.Given as goal
 
 abbrev pub invariant-loop-p : goal.invariant-loop-p

@@ -1,8 +1,7 @@
 -- `memory_pages::first_frozen` meets its contract. The invariant, which `pass_groups` gives: the search from page p on has the answer of the whole search.
-use Rattle.basics.proofs.Kit.{◌∙◌, ◌+◌, ◌*◌, ◌≤◌, ◌-◌, length, eq-eqb, ne_eqb, arith}
+use Rattle.basics.proofs.Kit.{◌∙◌, ◌+◌, ◌*◌, ◌≤◌, length, eq-eqb, ne_eqb, arith}
 use Rattle.memory_pages.proofs.Frozen.{frozen_entries, blocks_inside}
-use Rattle.memory_pages.specs.Pages.{frozen_word, Passed}
-use Rattle.memory_bytes.specs.Bytes.{column2}
+use Rattle.memory_pages.specs.Pages.{frozen_word}
 use Rattle.basics.proofs.Searches.{first_pass, first_hit, first_end}
 use Rattle.memory_pages.proofs.first_frozen.Goals as goal
 

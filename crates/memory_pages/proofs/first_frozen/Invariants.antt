@@ -1,8 +1,6 @@
-use Rattle.basics.proofs.Kit.{◌∙◌, ◌+◌, ◌*◌, ◌≤◌, ◌-◌, length, eq-eqb, ne_eqb, arith}
-use Rattle.memory_pages.proofs.Frozen.{frozen_entries, blocks_inside}
-use Rattle.memory_pages.specs.Pages.{frozen_word, Passed}
+use Rattle.basics.proofs.Kit.{◌-◌}
+use Rattle.memory_pages.specs.Pages.{Passed}
 use Rattle.memory_bytes.specs.Bytes.{column2}
-use Rattle.basics.proofs.Searches.{first_pass, first_hit, first_end}
 use Rattle.memory_pages.proofs.first_frozen.Given as goal
 
 abbrev pub invariant-loop-p : goal.invariant-loop-p

@@ -1,6 +1,6 @@
 -- `memory_pages::frozen_at` meets its contract: the page's word says whether it is frozen (`entry_frozen`).
 use Rattle.block_forms.specs.Limits.{block_limit}
-use Rattle.basics.proofs.Kit.{sym, ap, ◌∙◌, ℕ, ◌%◌, ◌/◌, eqb, rules, arith}
+use Rattle.basics.proofs.Kit.{sym, ap, ◌∙◌, ℕ, ◌%◌, ◌/◌, eqb, arith}
 use Rattle.memory_layout.proofs.Laws.{entries_length}
 use Rattle.memory_pages.proofs.Ranges.{entry_frozen}
 use Rattle.memory_pages.proofs.frozen_at.Goals as goal

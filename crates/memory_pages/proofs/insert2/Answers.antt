@@ -1,5 +1,5 @@
 -- `memory_pages::insert2` meets its contract: the numbers from i on go up by one place, then x is written (`inserted2`).
-use Rattle.basics.proofs.Kit.{rules, arith}
+use Rattle.basics.proofs.Kit.{arith}
 use Rattle.memory_pages.proofs.Columns.{inserted2}
 use Rattle.memory_pages.proofs.insert2.Goals as goal
 

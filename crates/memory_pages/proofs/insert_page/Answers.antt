@@ -1,5 +1,5 @@
 -- `memory_pages::insert_page` meets its contract: the new page starts where page p did, so that it has no row (`page_inserted`).
-use Rattle.basics.proofs.Kit.{rules, arith}
+use Rattle.basics.proofs.Kit.{arith}
 use Rattle.memory_layout.proofs.Laws.{entries_length}
 use Rattle.memory_pages.proofs.Changes.{page_inserted}
 use Rattle.memory_pages.proofs.Entries.{stands}

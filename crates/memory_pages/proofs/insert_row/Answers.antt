@@ -1,5 +1,5 @@
 -- `memory_pages::insert_row` meets its contract: the row is put in, then the pages behind page p start one row later (`row_inserted`).
-use Rattle.basics.proofs.Kit.{rules, arith}
+use Rattle.basics.proofs.Kit.{arith}
 use Rattle.memory_rows.specs.Rows.{held_by}
 use Rattle.memory_layout.specs.Flat.{flat_of}
 use Rattle.memory_layout.proofs.Laws.{entries_length, rows_length}

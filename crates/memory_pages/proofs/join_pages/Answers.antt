@@ -1,5 +1,5 @@
 -- `memory_pages::join_pages` meets its contract: page p leaves its block, then page p + 1 is closed (`join_done`).
-use Rattle.basics.proofs.Kit.{rules, arith}
+use Rattle.basics.proofs.Kit.{arith}
 use Rattle.memory_pages.proofs.Ranges.{ranges}
 use Rattle.memory_layout.proofs.Laws.{entries_length}
 use Rattle.memory_pages.proofs.Halves.{join_may, join_done}

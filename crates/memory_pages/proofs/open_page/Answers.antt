@@ -1,5 +1,5 @@
 -- `memory_pages::open_page` meets its contract: `opened` joins what is put into the two columns and the change of the tables' ends.
-use Rattle.basics.proofs.Kit.{rules, arith}
+use Rattle.basics.proofs.Kit.{arith}
 use Rattle.memory_pages.proofs.Columns.{opened}
 use Rattle.memory_pages.proofs.Ranges.{ranges}
 use Rattle.memory_pages.proofs.open_page.Goals as goal

@@ -4,7 +4,7 @@ use Rattle.memory_bytes.specs.Columns.{up_to}
 use Rattle.basics.specs.Lists.{tab}
 use Rattle.memory_bytes.specs.Bytes.{column2}
 use Rattle.basics.specs.Basics.{how_many}
-use Rattle.basics.proofs.Kit.{ap, ◌∙◌, ℕ, ◌-◌, rules, arith}
+use Rattle.basics.proofs.Kit.{ap, ◌∙◌, ℕ, ◌-◌, arith}
 use Rattle.memory_pages.proofs.Finding.{Found, found}
 use Rattle.memory_pages.proofs.Ranges.{ranges, start_most}
 use Rattle.memory_pages.proofs.page_of.Goals as goal

@@ -1,7 +1,6 @@
 -- `memory_pages::pass_groups` meets its contract. The invariant: a search for a frozen page may start at page p.
-use Rattle.basics.proofs.Kit.{◌-◌, arith}
-use Rattle.memory_pages.specs.Pages.{frozen_word, Passed}
-use Rattle.memory_bytes.specs.Bytes.{column2}
+use Rattle.basics.proofs.Kit.{arith}
+use Rattle.memory_pages.specs.Pages.{frozen_word}
 use Rattle.memory_bytes.proofs.Scans.{any_group2}
 use Rattle.basics.proofs.Searches.{first_skip}
 use Rattle.memory_pages.proofs.pass_groups.Goals as goal

@@ -1,6 +1,5 @@
 -- `memory_pages::remove2` meets its contract: the numbers behind number i go down by one place (`removed2`).
 use Rattle.memory_pages.proofs.Columns.{removed2}
-use Rattle.basics.proofs.Kit.{rules}
 use Rattle.memory_pages.proofs.remove2.Goals as goal
 
 pub returns : goal.returns

@@ -1,5 +1,5 @@
 -- `memory_pages::remove_page` meets its contract: `close_page` moves no row to the page before, since page p has none (`page_removed`).
-use Rattle.basics.proofs.Kit.{◌≡◌, sym, ◌∙◌, subst, ℕ, ◌<◌, rules, arith}
+use Rattle.basics.proofs.Kit.{◌≡◌, sym, ◌∙◌, subst, ℕ, ◌<◌, arith}
 use Rattle.memory_layout.proofs.Laws.{entries_length}
 use Rattle.memory_layout.specs.Views.{page_count, table_at}
 use Rattle.memory_pages.proofs.Changes.{page_removed}

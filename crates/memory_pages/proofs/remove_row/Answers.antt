@@ -1,5 +1,5 @@
 -- `memory_pages::remove_row` meets its contract: the row is taken out, then the pages behind page p start one row earlier (`row_removed`).
-use Rattle.basics.proofs.Kit.{rules, arith}
+use Rattle.basics.proofs.Kit.{arith}
 use Rattle.memory_layout.specs.Flat.{flat_of}
 use Rattle.memory_layout.proofs.Laws.{entries_length, rows_length}
 use Rattle.memory_pages.proofs.Moves.{row_removed}

@@ -1,5 +1,5 @@
 -- `memory_pages::set_page` meets its contract: the page's word is written, and no other byte (`block_set`).
-use Rattle.basics.proofs.Kit.{rules, arith}
+use Rattle.basics.proofs.Kit.{arith}
 use Rattle.memory_layout.proofs.Laws.{entries_length}
 use Rattle.memory_pages.proofs.Changes.{block_set}
 use Rattle.memory_pages.proofs.Ranges.{ranges}

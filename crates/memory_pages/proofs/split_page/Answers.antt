@@ -1,5 +1,5 @@
 -- `memory_pages::split_page` meets its contract: page p leaves its block, then a page that starts k rows behind its start is opened (`split_done`).
-use Rattle.basics.proofs.Kit.{suc, rules, arith}
+use Rattle.basics.proofs.Kit.{suc, arith}
 use Rattle.memory_layout.proofs.Laws.{entries_length}
 use Rattle.memory_pages.proofs.Halves.{split_may, split_done}
 use Rattle.memory_pages.proofs.Ranges.{ranges, start_most, entry_count, starts_rise}

@@ -1,7 +1,7 @@
 -- `memory_pages::start_at` meets its contract: a page's start is stored (`start_stored`); behind the last page it is the number of rows (`start_behind`).
 use Rattle.memory_layout.specs.Flat.{capacity_of}
 use Rattle.memory_bytes.specs.Bytes.{le2}
-use Rattle.basics.proofs.Kit.{sym, ap, ◌∙◌, ℕ, ◌+◌, ◌*◌, rules, arith}
+use Rattle.basics.proofs.Kit.{sym, ap, ◌∙◌, ℕ, ◌+◌, ◌*◌, arith}
 use Rattle.memory_pages.proofs.Ranges.{ranges, start_stored, start_behind}
 use Rattle.memory_pages.proofs.start_at.Goals as goal
 

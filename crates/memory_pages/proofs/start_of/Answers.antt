@@ -1,6 +1,6 @@
 -- `memory_pages::start_of` meets its contract: the start that is stored is how many rows the pages before have (`starts`).
 use Rattle.memory_layout.proofs.Laws.{starts, entries_length, rows_length}
-use Rattle.basics.proofs.Kit.{◌∙◌, rules, arith}
+use Rattle.basics.proofs.Kit.{◌∙◌, arith}
 use Rattle.memory_pages.proofs.Ranges.{start_most}
 use Rattle.memory_pages.proofs.start_of.Goals as goal
 

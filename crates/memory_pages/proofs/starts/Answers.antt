@@ -1,5 +1,5 @@
 -- `memory_pages::starts` meets its contract. The capacity of a memory with room is at most 1,024 (`ranges`), so that nothing overflows.
-use Rattle.basics.proofs.Kit.{rules, arith}
+use Rattle.basics.proofs.Kit.{arith}
 use Rattle.memory_pages.proofs.Ranges.{ranges}
 use Rattle.memory_pages.proofs.starts.Goals as goal
 

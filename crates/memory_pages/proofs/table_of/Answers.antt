@@ -1,7 +1,7 @@
 -- `memory_pages::table_of` meets its contract: a page's table is how many of the first seven tables end at or before it (`table_counted`).
 use Rattle.memory_layout.specs.Views.{table_at}
 use Rattle.memory_layout.proofs.Laws.{entries_length}
-use Rattle.basics.proofs.Kit.{◌≡◌, sym, ◌∙◌, rules, arith}
+use Rattle.basics.proofs.Kit.{◌≡◌, sym, ◌∙◌, arith}
 use Rattle.memory_pages.proofs.Ranges.{ranges, entry_table}
 use Rattle.memory_pages.proofs.Tables.{table_is, table_counted}
 use Rattle.memory_pages.proofs.table_of.Goals as goal

@@ -1,5 +1,5 @@
 -- `memory_pages::table_start` meets its contract: table 0 starts at page 0, and table t where table t - 1 ends (`from_end`).
-use Rattle.basics.proofs.Kit.{◌≡◌, subst, ℕ, ◌+◌, ◌-◌, rules, arith}
+use Rattle.basics.proofs.Kit.{◌≡◌, subst, ℕ, ◌+◌, ◌-◌, arith}
 use Rattle.memory_layout.specs.Flat.{flat_of}
 use Rattle.memory_pages.specs.Pages.{TableFrom}
 use Rattle.memory_pages.proofs.Tables.{from_end}

@@ -1,6 +1,6 @@
 -- `memory_pages::word` meets its contract, for a frozen page and for one that is not.
 use Rattle.block_forms.specs.Limits.{block_limit}
-use Rattle.basics.proofs.Kit.{sym, ap, ◌∙◌, Bool, cond, ◌+◌, add-zero, rules}
+use Rattle.basics.proofs.Kit.{sym, ap, ◌∙◌, Bool, cond, ◌+◌, add-zero}
 use Rattle.memory_pages.specs.Pages.{word_of}
 use Rattle.memory_pages.proofs.word.Goals as goal
 

@@ -1,8 +1,7 @@
-use Rattle.memory_rows.proofs.Groups.{unset, group_is}
-use Rattle.memory_rows.proofs.Access.{sized}
+use Rattle.memory_rows.proofs.Groups.{unset}
 use Rattle.memory_bytes.specs.Bytes.{column1}
-use Rattle.memory_bytes.proofs.Scans.{AnyFrom, any_starts, any_iterates, any_ends}
-use Rattle.basics.proofs.Kit.{refl, sym, ◌∙◌, ◌-◌, arith}
+use Rattle.memory_bytes.proofs.Scans.{AnyFrom}
+use Rattle.basics.proofs.Kit.{◌-◌}
 use Rattle.memory_rows.proofs.any_tentative.Given as goal
 
 abbrev pub invariant-loop-j : goal.invariant-loop-j

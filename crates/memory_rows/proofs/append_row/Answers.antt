@@ -2,7 +2,7 @@
 use Rattle.memory_bytes.specs.Columns.{slot_limit}
 use Rattle.memory_rows.proofs.Appending.{appended, in_order}
 use Rattle.memory_layout.specs.Views.{head_of}
-use Rattle.basics.proofs.Kit.{ap, ℕ, ◌+◌, ◌*◌, ◌<◌, rules, arith}
+use Rattle.basics.proofs.Kit.{ap, ℕ, ◌+◌, ◌*◌, ◌<◌, arith}
 use Rattle.memory_rows.proofs.append_row.Goals as goal
 
 pub put_cells-requires : goal.put_cells-requires

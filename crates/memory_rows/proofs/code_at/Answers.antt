@@ -1,7 +1,7 @@
 -- `memory_rows::code_at` meets its contract: the number stands above the slot's in the row's two bytes (`pending_is_lem`).
 use Rattle.memory_rows.proofs.Access.{pending_is_lem}
 use Rattle.memory_layout.specs.Views.{pending_of}
-use Rattle.basics.proofs.Kit.{sym, ap, ◌∙◌, rules, arith}
+use Rattle.basics.proofs.Kit.{sym, ap, ◌∙◌, arith}
 use Rattle.memory_rows.proofs.code_at.Goals as goal
 
 pub returns : goal.returns

@@ -1,7 +1,7 @@
 -- `memory_rows::commit_row` meets its contract: the one byte that is written is the row's state (`commits`).
 use Rattle.memory_rows.proofs.Exchange.{commits}
 use Rattle.memory_bytes.proofs.Moves.{write_first, write_end}
-use Rattle.basics.proofs.Kit.{refl, [], rules}
+use Rattle.basics.proofs.Kit.{refl, []}
 use Rattle.memory_rows.proofs.commit_row.Goals as goal
 
 pub returns : goal.returns

@@ -1,5 +1,5 @@
 -- `memory_rows::copy_payload` meets its contract, by those of `payload_at` and `copy_out`.
-use Rattle.basics.proofs.Kit.{ap, ◌∙◌, List, ◌++◌, ℕ, ◌+◌, drop, rules}
+use Rattle.basics.proofs.Kit.{ap, ◌∙◌, List, ◌++◌, ℕ, drop}
 use Rattle.memory_rows.proofs.copy_payload.Goals as goal
 
 pub returns : goal.returns

@@ -3,7 +3,7 @@ use Rattle.memory_rows.proofs.Access.{over_keys}
 use Rattle.memory_bytes.specs.Columns.{equals}
 use Rattle.basics.specs.Lists.{first_index}
 use Rattle.memory_layout.specs.Places.{keys_at}
-use Rattle.basics.proofs.Kit.{ap, ◌∙◌, rules}
+use Rattle.basics.proofs.Kit.{ap, ◌∙◌}
 use Rattle.memory_rows.proofs.find_equal.Goals as goal
 
 pub returns : goal.returns

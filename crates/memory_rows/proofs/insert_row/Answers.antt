@@ -2,7 +2,7 @@
 use Rattle.memory_bytes.specs.Columns.{slot_limit}
 use Rattle.memory_rows.proofs.Inserting.{inserted}
 use Rattle.memory_layout.specs.Views.{head_of}
-use Rattle.basics.proofs.Kit.{ap, ℕ, ◌+◌, ◌*◌, rules, arith}
+use Rattle.basics.proofs.Kit.{ap, ℕ, ◌+◌, ◌*◌, arith}
 use Rattle.memory_rows.proofs.insert_row.Goals as goal
 
 pub free_slot-s-requires : goal.free_slot-s-requires
@@ -22,9 +22,9 @@ raise_rows-requires c = let cap = c.capacity-c.ensures in
 pub put_cells-requires : goal.put_cells-requires
 unfolding head_of
 put_cells-requires c = let cap = c.capacity-c.ensures in (
-      record { most = cap.most; long = omega (arith, cap.long, c.fill_slot.ensures.apart.size, c.raise_rows.ensures.only.size) },
-      omega (arith, cap.is, c.requires.at, c.requires.more),
-    )
+  record { most = cap.most; long = omega (arith, cap.long, c.fill_slot.ensures.apart.size, c.raise_rows.ensures.only.size) },
+  omega (arith, cap.is, c.requires.at, c.requires.more),
+)
 
 pub returns : goal.returns
 unfolding head_of

@@ -2,7 +2,7 @@
 use Rattle.block_forms.specs.declared.Owner.{Owner}
 use Rattle.block_forms.specs.Bytes.{owner_is}
 use Rattle.image_rows.specs.Rows.{is_by}
-use Rattle.basics.proofs.Kit.{sym, ap, rules}
+use Rattle.basics.proofs.Kit.{sym, ap}
 use Rattle.memory_rows.proofs.is_by.Goals as goal
 
 pub returns-in-Committed : goal.returns-in-Committed

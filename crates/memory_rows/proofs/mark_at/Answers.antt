@@ -1,7 +1,7 @@
 -- `memory_rows::mark_at` meets its contract: the mark is read from the row's state (`mark_is`).
 use Rattle.memory_rows.proofs.Access.{mark_is}
 use Rattle.block_forms.specs.Decode.{read_mark}
-use Rattle.basics.proofs.Kit.{sym, ap, ◌∙◌, rules}
+use Rattle.basics.proofs.Kit.{sym, ap, ◌∙◌}
 use Rattle.memory_rows.proofs.mark_at.Goals as goal
 
 pub returns : goal.returns

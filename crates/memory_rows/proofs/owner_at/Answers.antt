@@ -4,7 +4,7 @@ use Rattle.block_forms.specs.Decode.{read_owner}
 use Rattle.block_forms.specs.Bytes.{owner_is}
 use Rattle.block_forms.proofs.ReadTuples.{owner_same}
 use Rattle.memory_bytes.specs.Bytes.{le4}
-use Rattle.basics.proofs.Kit.{sym, ap, ◌∙◌, ℕ, ◌+◌, rules}
+use Rattle.basics.proofs.Kit.{sym, ap, ◌∙◌, ℕ, ◌+◌}
 use Rattle.memory_rows.proofs.owner_at.Goals as goal
 
 pub returns : goal.returns

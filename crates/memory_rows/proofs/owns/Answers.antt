@@ -3,7 +3,7 @@ use Rattle.memory_rows.proofs.Fields.{live_is}
 use Rattle.memory_rows.specs.Cells.{keeps_owner}
 use Rattle.memory_layout.specs.Flat.{flat_of, row_in}
 use Rattle.image_rows.specs.Rows.{is_by}
-use Rattle.basics.proofs.Kit.{sym, ap, ◌∙◌, Bool, ◌&&◌, rules}
+use Rattle.basics.proofs.Kit.{sym, ap, ◌∙◌, Bool, ◌&&◌}
 use Rattle.memory_rows.proofs.owns.Goals as goal
 
 pub returns-then-keeps_owner : goal.returns-then-keeps_owner

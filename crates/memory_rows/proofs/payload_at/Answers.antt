@@ -3,7 +3,7 @@ use Rattle.memory_rows.proofs.Access.{payload_is}
 use Rattle.memory_layout.specs.Views.{length_of}
 use Rattle.memory_bytes.proofs.Bytes.{length_bytes}
 use Rattle.memory_bytes.specs.Bytes.{bytes}
-use Rattle.basics.proofs.Kit.{sym, ap, ◌∙◌, ◌+◌, length, rules, arith}
+use Rattle.basics.proofs.Kit.{sym, ap, ◌∙◌, ◌+◌, length, arith}
 use Rattle.memory_rows.proofs.payload_at.Goals as goal
 
 pub returns : goal.returns

@@ -1,6 +1,6 @@
 -- `memory_rows::pending_at` meets its contract: one case for each number of an operation.
 use Rattle.memory_layout.specs.Views.{pending_by}
-use Rattle.basics.proofs.Kit.{ap, ◌∙◌, sym, ne_eqb, rules}
+use Rattle.basics.proofs.Kit.{ap, ◌∙◌, sym, ne_eqb}
 use Rattle.basics.specs.Basics.{if◌then◌else◌}
 use Rattle.memory_rows.proofs.pending_at.Goals as goal
 

@@ -1,7 +1,7 @@
 -- `memory_rows::set_pending` meets its contract: the two bytes that are written are the row's slot and pending operation (`pends`).
 use Rattle.memory_bytes.specs.Columns.{slot_limit}
 use Rattle.memory_rows.proofs.Exchange.{pends}
-use Rattle.basics.proofs.Kit.{◌+◌, ◌*◌, ◌%◌, rules, arith}
+use Rattle.basics.proofs.Kit.{◌+◌, ◌*◌, ◌%◌, arith}
 use Rattle.memory_rows.proofs.set_pending.Goals as goal
 
 pub returns : goal.returns

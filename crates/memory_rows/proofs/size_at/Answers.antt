@@ -1,6 +1,6 @@
 -- `memory_rows::size_at` meets its contract: the size depends on the state alone (`size_is`).
 use Rattle.memory_rows.proofs.Fields.{size_is, owner_most}
-use Rattle.basics.proofs.Kit.{sym, ◌∙◌, ap, ltb, rules, arith}
+use Rattle.basics.proofs.Kit.{sym, ◌∙◌, ap, ltb, arith}
 use Rattle.block_forms.specs.Limits.{committed_value}
 use Rattle.block_forms.specs.Tuple.{record_size}
 use Rattle.memory_rows.proofs.size_at.Goals as goal

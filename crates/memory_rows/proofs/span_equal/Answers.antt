@@ -1,7 +1,7 @@
 -- `memory_rows::span_equal` meets its contract, by that of the search in the column of keys, which are the keys of the rows (`covers_keys`).
 use Rattle.memory_rows.proofs.Access.{covers_keys}
 use Rattle.memory_layout.specs.Places.{keys_at}
-use Rattle.basics.proofs.Kit.{ap, ◌∙◌, rules}
+use Rattle.basics.proofs.Kit.{ap, ◌∙◌}
 use Rattle.memory_rows.proofs.span_equal.Goals as goal
 
 pub returns : goal.returns

@@ -1,5 +1,4 @@
 -- `block_forms::PageLayout::record_size` meets its contract: the sum of the head's bytes, the owner's and the payload's, which is not too large for 32 bits.
-use Rattle.basics.proofs.Kit.{rules}
 use Rattle.basics.specs.Basics.{if◌then◌else◌}
 use Rattle.block_forms.proofs.PageLayout.record_size.Goals as goal
 

@@ -1,5 +1,5 @@
 -- `block_reader::Cursor::next` meets its contract: no record where one would reach too far or be too long, else the record as the definitions read it (`found_as`).
-use Rattle.basics.proofs.Kit.{lt-ltb, le-ltb, ◌≡◌, sym, ◌∙◌, ⊎_elim, List, ℕ, ◌+◌, ◌%◌, ltb, rules, arith}
+use Rattle.basics.proofs.Kit.{lt-ltb, le-ltb, ◌≡◌, sym, ◌∙◌, List, ℕ, ◌+◌, ◌%◌, ltb, arith}
 use Rattle.basics.specs.Basics.{if◌then◌else◌}
 use Rattle.block_forms.specs.Limits.{record_head, mark_value, committed_value}
 use Rattle.block_forms.specs.Numbers.{num4}

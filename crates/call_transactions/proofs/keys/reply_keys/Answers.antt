@@ -1,5 +1,5 @@
 -- `call_transactions::keys::reply_keys` meets its contract: the keys as reply (`keys_reply_lem`).
-use Rattle.basics.proofs.Kit.{rules, arith}
+use Rattle.basics.proofs.Kit.{arith}
 use Rattle.memory_layout.specs.Flat.{flat_of}
 use Rattle.call_contracts.proofs.Answering.{replies_21, replies_with}
 use Rattle.call_transactions.proofs.Intervals.{keys_reply_lem, keys_long, keys_copied}

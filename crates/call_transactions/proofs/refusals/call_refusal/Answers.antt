@@ -1,5 +1,4 @@
 -- `call_transactions::refusals::call_refusal` meets its contract: one case for each test (`call_10`, `call_11`), and none (`call_passed`).
-use Rattle.basics.proofs.Kit.{rules}
 use Rattle.call_transactions.proofs.Testing.{call_stopped, call_10, call_11, call_passed}
 use Rattle.call_transactions.proofs.refusals.call_refusal.Goals as goal
 

@@ -1,5 +1,5 @@
 -- `call_transactions::refusals::key_refusal` meets its contract: one case for each test (`key_12` to `key_14`), and those that go on to `full_refusal`.
-use Rattle.basics.proofs.Kit.{◌∙◌, ap, ⊎_elim, not, sym, rules}
+use Rattle.basics.proofs.Kit.{◌∙◌, ap, not, sym}
 use Rattle.memory_layout.specs.Flat.{flat_of}
 use Rattle.memory_layout.proofs.Laws.{holds_room}
 use Rattle.call_transactions.specs.Refusals.{known}

@@ -1,7 +1,7 @@
-use Rattle.memory_bytes.proofs.Scans.{AnyFrom, any_starts, any_iterates, any_ends}
+use Rattle.memory_bytes.proofs.Scans.{AnyFrom}
 use Rattle.memory_bytes.specs.Columns.{equals}
 use Rattle.memory_bytes.specs.Bytes.{column4}
-use Rattle.basics.proofs.Kit.{◌-◌, arith}
+use Rattle.basics.proofs.Kit.{◌-◌}
 use Rattle.memory_bytes.proofs.search.any_equal.Given as goal
 
 abbrev pub invariant-loop-j : goal.invariant-loop-j

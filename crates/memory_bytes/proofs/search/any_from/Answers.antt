@@ -1,8 +1,6 @@
 -- `memory_bytes::search::any_from` meets its contract. The invariant (`AnyFrom`): the answer is hit, or whether one of the numbers from j on is not below the key.
-use Rattle.memory_bytes.proofs.Scans.{AnyFrom, any_starts, any_iterates, any_ends}
-use Rattle.memory_bytes.specs.Columns.{at_least}
-use Rattle.memory_bytes.specs.Bytes.{column4}
-use Rattle.basics.proofs.Kit.{◌-◌, arith}
+use Rattle.memory_bytes.proofs.Scans.{any_starts, any_iterates, any_ends}
+use Rattle.basics.proofs.Kit.{arith}
 use Rattle.memory_bytes.proofs.search.any_from.Goals as goal
 
 pub loop-j-init : goal.loop-j-init

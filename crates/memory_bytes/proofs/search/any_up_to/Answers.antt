@@ -1,8 +1,6 @@
 -- `memory_bytes::search::any_up_to` meets its contract. The invariant (`AnyFrom`): the answer is hit, or whether one of the numbers from j on is not above the key.
-use Rattle.memory_bytes.proofs.Scans.{AnyFrom, any_starts, any_iterates, any_ends}
-use Rattle.memory_bytes.specs.Columns.{up_to}
-use Rattle.memory_bytes.specs.Bytes.{column4}
-use Rattle.basics.proofs.Kit.{◌-◌, arith}
+use Rattle.memory_bytes.proofs.Scans.{any_starts, any_iterates, any_ends}
+use Rattle.basics.proofs.Kit.{arith}
 use Rattle.memory_bytes.proofs.search.any_up_to.Goals as goal
 
 pub loop-j-init : goal.loop-j-init

@@ -1,9 +1,7 @@
-use Rattle.memory_bytes.proofs.Scans.{any_group4}
-use Rattle.basics.proofs.Searches.{first_skip, first_pass, first_hit, first_end}
 use Rattle.memory_bytes.specs.Columns.{equals}
 use Rattle.basics.specs.Lists.{tab, first_index}
 use Rattle.memory_bytes.specs.Bytes.{column4}
-use Rattle.basics.proofs.Kit.{◌≡◌, refl, ◌+◌, ◌≤◌, ◌-◌, eq-eqb, ne_eqb, arith}
+use Rattle.basics.proofs.Kit.{◌≡◌, ◌+◌, ◌≤◌, ◌-◌}
 use Rattle.memory_bytes.proofs.search.find_equal.Given as goal
 
 abbrev pub invariant-loop-k : goal.invariant-loop-k

@@ -1,8 +1,6 @@
 -- `memory_bytes::search::first_equal16` meets its contract. The invariant: f is from j to 16, and no number from j up to f is the key.
-use Rattle.basics.proofs.Kit.{refl, ◌∙◌, ◌≤◌, arith}
+use Rattle.basics.proofs.Kit.{refl, ◌∙◌, arith}
 use Rattle.memory_bytes.proofs.Spans.{covers_none, covers_is, down_here, down_past}
-use Rattle.memory_bytes.specs.Bytes.{column4}
-use Rattle.memory_bytes.specs.Columns.{Covers}
 use Rattle.memory_bytes.proofs.search.first_equal16.Goals as goal
 
 pub loop-j-init : goal.loop-j-init

@@ -1,5 +1,4 @@
-use Rattle.basics.proofs.Kit.{refl, ◌∙◌, ◌≤◌, arith}
-use Rattle.memory_bytes.proofs.Spans.{covers_none, covers_is, down_here, down_past}
+use Rattle.basics.proofs.Kit.{◌≤◌}
 use Rattle.memory_bytes.specs.Bytes.{column4}
 use Rattle.memory_bytes.specs.Columns.{Covers}
 use Rattle.memory_bytes.proofs.search.first_equal16.Given as goal

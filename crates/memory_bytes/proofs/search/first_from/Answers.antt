@@ -1,10 +1,7 @@
 -- `memory_bytes::search::first_from` meets its contract. The invariant of both loops: the search from index k on has the answer of the search from i on.
 use Rattle.memory_bytes.proofs.Scans.{any_group4}
 use Rattle.basics.proofs.Searches.{first_skip, first_pass, first_hit, first_end}
-use Rattle.memory_bytes.specs.Columns.{at_least}
-use Rattle.basics.specs.Lists.{tab, first_index}
-use Rattle.memory_bytes.specs.Bytes.{column4}
-use Rattle.basics.proofs.Kit.{◌≡◌, refl, ◌+◌, ◌≤◌, ◌-◌, le-leb, lt-leb, arith}
+use Rattle.basics.proofs.Kit.{refl, le-leb, lt-leb, arith}
 use Rattle.memory_bytes.proofs.search.first_from.Goals as goal
 
 -- a group without a hit

@@ -1,9 +1,8 @@
 -- `memory_bytes::search::groups_equal` meets its contract. The invariant is the contract with k in the place of e; the last group, which ends at e, is one more turn.
-use Rattle.basics.proofs.Kit.{refl, sym, ◌≤◌, ◌-◌, arith}
+use Rattle.basics.proofs.Kit.{refl, sym, ◌-◌, arith}
 use Rattle.memory_bytes.proofs.Scans.{any_group4}
 use Rattle.memory_bytes.proofs.Spans.{grouped_none, grouped_iteration}
-use Rattle.memory_bytes.specs.Bytes.{column4}
-use Rattle.memory_bytes.specs.Columns.{equals, Grouped}
+use Rattle.memory_bytes.specs.Columns.{equals}
 use Rattle.memory_bytes.proofs.search.groups_equal.Goals as goal
 
 pub loop-k-init : goal.loop-k-init

@@ -1,8 +1,6 @@
-use Rattle.basics.proofs.Kit.{refl, sym, ◌≤◌, ◌-◌, arith}
-use Rattle.memory_bytes.proofs.Scans.{any_group4}
-use Rattle.memory_bytes.proofs.Spans.{grouped_none, grouped_iteration}
+use Rattle.basics.proofs.Kit.{◌≤◌, ◌-◌}
 use Rattle.memory_bytes.specs.Bytes.{column4}
-use Rattle.memory_bytes.specs.Columns.{equals, Grouped}
+use Rattle.memory_bytes.specs.Columns.{Grouped}
 use Rattle.memory_bytes.proofs.search.groups_equal.Given as goal
 
 abbrev pub invariant-loop-k : goal.invariant-loop-k

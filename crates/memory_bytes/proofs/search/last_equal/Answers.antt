@@ -1,8 +1,6 @@
 -- `memory_bytes::search::last_equal` meets its contract. The invariant of both loops: the search below index k has the answer of the search below e.
-use Rattle.basics.proofs.Searches.{LastBelow, last_skip, last_pass, last_hit, last_end}
+use Rattle.basics.proofs.Searches.{last_skip, last_pass, last_hit, last_end}
 use Rattle.memory_bytes.proofs.Scans.{any_group4}
-use Rattle.memory_bytes.specs.Columns.{equals}
-use Rattle.memory_bytes.specs.Bytes.{column4}
 use Rattle.basics.proofs.Kit.{refl, ◌-◌, eq-eqb, ne_eqb, arith}
 use Rattle.memory_bytes.proofs.search.last_equal.Goals as goal
 

@@ -1,8 +1,6 @@
-use Rattle.basics.proofs.Searches.{LastBelow, last_skip, last_pass, last_hit, last_end}
-use Rattle.memory_bytes.proofs.Scans.{any_group4}
+use Rattle.basics.proofs.Searches.{LastBelow}
 use Rattle.memory_bytes.specs.Columns.{equals}
 use Rattle.memory_bytes.specs.Bytes.{column4}
-use Rattle.basics.proofs.Kit.{refl, ◌-◌, eq-eqb, ne_eqb, arith}
 use Rattle.memory_bytes.proofs.search.last_equal.Given as goal
 
 abbrev pub invariant-loop-k : goal.invariant-loop-k

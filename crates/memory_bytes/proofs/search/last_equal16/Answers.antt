@@ -1,8 +1,6 @@
 -- `memory_bytes::search::last_equal16` meets its contract. The invariant: f is at most j, and no number from f up to j is the key.
-use Rattle.basics.proofs.Kit.{refl, ◌∙◌, ⊎_elim, ◌≤◌, ◌-◌, arith}
+use Rattle.basics.proofs.Kit.{refl, ◌∙◌, arith}
 use Rattle.memory_bytes.proofs.Spans.{covers_none, covers_is, up_here, up_past}
-use Rattle.memory_bytes.specs.Bytes.{column4}
-use Rattle.memory_bytes.specs.Columns.{Covers}
 use Rattle.memory_bytes.proofs.search.last_equal16.Goals as goal
 use Rattle.memory_bytes.proofs.search.last_equal16.Goals.{then-get4-key, else-get4-key}
 

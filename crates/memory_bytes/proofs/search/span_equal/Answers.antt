@@ -1,5 +1,5 @@
 -- `memory_bytes::search::span_equal` meets its contract: fewer than 16 numbers by `found_covers`, 16 or more by `grouped_empty` or `grouped_covers`.
-use Rattle.basics.proofs.Kit.{rules, arith}
+use Rattle.basics.proofs.Kit.{arith}
 use Rattle.memory_bytes.specs.Bytes.{column4}
 use Rattle.memory_bytes.proofs.Spans.{first_in, found_covers, grouped_empty, grouped_covers}
 use Rattle.memory_bytes.proofs.search.span_equal.Goals as goal

@@ -1,5 +1,5 @@
 -- `memory_layout::starts_rise` meets its contract, by its returns: no page, an empty last page, a first page that does not start at row 0, else `rising2`.
-use Rattle.basics.proofs.Kit.{sym, rules, arith}
+use Rattle.basics.proofs.Kit.{sym, arith}
 use Rattle.memory_layout.proofs.Refusal.{no_pages, last_empty, first_moved, all_rise}
 use Rattle.memory_layout.proofs.ranges.starts_rise.Goals as goal
 

@@ -1,7 +1,6 @@
 -- `memory_layout::tables_rise` meets its contract. The invariant: the answer is whether rise is true and no table from t on ends above the next one.
-use Rattle.basics.proofs.Kit.{◌≡◌, refl, sym, ap, ◌∙◌, Bool, ◌&&◌, ◌≤◌, ◌-◌, arith}
+use Rattle.basics.proofs.Kit.{refl, sym, ap, ◌∙◌, Bool, ◌&&◌, arith}
 use Rattle.basics.proofs.Ands.{and_yes}
-use Rattle.basics.specs.Basics.{all, from}
 use Rattle.basics.proofs.Froms.{all_end}
 use Rattle.memory_layout.specs.Store.{tables_rise}
 use Rattle.memory_layout.proofs.Refusal.{end_rises, tables_iteration}

@@ -1,7 +1,7 @@
 -- `memory_rows::places::capacity` meets its contract: the number is read from the head, and a memory with room has its bounds (`sized`).
 use Rattle.memory_rows.proofs.Access.{sized}
 use Rattle.memory_rows.specs.Cells.{Capacity}
-use Rattle.basics.proofs.Kit.{sym, subst, ℕ, rules}
+use Rattle.basics.proofs.Kit.{sym, subst, ℕ}
 use Rattle.memory_rows.proofs.places.capacity.Goals as goal
 
 pub returns : goal.returns

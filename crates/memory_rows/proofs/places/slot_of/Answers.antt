@@ -1,6 +1,6 @@
 -- `memory_rows::places::slot_of` meets its contract: a slot number below the capacity is answered as it is, any other as slot 0.
 use Rattle.memory_layout.specs.Views.{slot_of}
-use Rattle.basics.proofs.Kit.{lt-ltb, le-ltb, rules}
+use Rattle.basics.proofs.Kit.{lt-ltb, le-ltb}
 use Rattle.basics.specs.Basics.{if◌then◌else◌}
 use Rattle.memory_rows.proofs.places.slot_of.Goals as goal
 

@@ -1,7 +1,7 @@
 -- `memory_rows::places::slot_place` meets its contract, by those of `capacity`, `ref_at`, `slot_of` and `slot_at`.
 use Rattle.memory_rows.specs.Cells.{slot_in, slot_at}
 use Rattle.memory_layout.specs.Views.{slot_of, slot_place}
-use Rattle.basics.proofs.Kit.{◌≡◌, ap, ◌∙◌, rules, arith}
+use Rattle.basics.proofs.Kit.{◌≡◌, ap, ◌∙◌, arith}
 use Rattle.memory_rows.proofs.places.slot_place.Goals as goal
 
 pub returns : goal.returns

@@ -1,6 +1,5 @@
 -- `memory_rows::shifts::copy_eight` meets its contract: a copy in each column is a copy of the cells (`copied_eight`).
 use Rattle.memory_rows.proofs.Eights.{copied_eight}
-use Rattle.basics.proofs.Kit.{rules}
 use Rattle.memory_rows.proofs.shifts.copy_eight.Goals as goal
 
 pub returns : goal.returns

@@ -1,5 +1,5 @@
 -- `memory_rows::shifts::give_eight` meets its contract: a part written in each column writes the cells (`given`).
-use Rattle.basics.proofs.Kit.{rules, arith}
+use Rattle.basics.proofs.Kit.{arith}
 use Rattle.memory_rows.proofs.Eights.{given}
 use Rattle.memory_rows.proofs.shifts.give_eight.Goals as goal
 

@@ -1,6 +1,6 @@
 -- `memory_rows::shifts::lower_eights` meets its contract. The invariant (`Lowering`): the blocks below row k have moved, the others stand as they were.
 use Rattle.basics.proofs.Kit.{◌+◌, ◌-◌, arith}
-use Rattle.memory_rows.proofs.Eights.{taken_fits, fit_then, Lowering, lowering_start, lowering_iteration, lowering_end}
+use Rattle.memory_rows.proofs.Eights.{taken_fits, fit_then, lowering_start, lowering_iteration, lowering_end}
 use Rattle.memory_rows.proofs.shifts.lower_eights.Goals as goal
 
 pub copy_eight-requires : goal.copy_eight-requires
@@ -12,10 +12,10 @@ loop-k-preserved c = lowering_iteration c.loop-k.invariant c.requires.0.space (o
 
 pub give_eight-requires : goal.give_eight-requires
 give_eight-requires c = record {
-      fit = fit_then c.requires.0.fit c.loop-k.invariant.only;
-      inside = omega (arith, c.requires.0.space);
-      cells = taken_fits c.args.m.now c.args.c (c.args.i + 1) c.take_eight-first.ensures;
-    }
+  fit = fit_then c.requires.0.fit c.loop-k.invariant.only;
+  inside = omega (arith, c.requires.0.space);
+  cells = taken_fits c.args.m.now c.args.c (c.args.i + 1) c.take_eight-first.ensures;
+}
 
 pub give_eight-requires-2 : goal.give_eight-requires-2
 give_eight-requires-2 c = let a = c.args in

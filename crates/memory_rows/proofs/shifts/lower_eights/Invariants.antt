@@ -1,5 +1,5 @@
-use Rattle.basics.proofs.Kit.{◌+◌, ◌-◌, arith}
-use Rattle.memory_rows.proofs.Eights.{taken_fits, fit_then, Lowering, lowering_start, lowering_iteration, lowering_end}
+use Rattle.basics.proofs.Kit.{◌-◌}
+use Rattle.memory_rows.proofs.Eights.{Lowering}
 use Rattle.memory_rows.proofs.shifts.lower_eights.Given as goal
 
 abbrev pub invariant-loop-k : goal.invariant-loop-k

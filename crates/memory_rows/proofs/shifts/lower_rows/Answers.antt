@@ -1,6 +1,5 @@
 -- `memory_rows::shifts::lower_rows` meets its contract: nine or more by `lower_eights`, fewer by a move of each column (`lowered_rows`).
 use Rattle.memory_rows.proofs.Moving.{lowered_rows}
-use Rattle.basics.proofs.Kit.{rules}
 use Rattle.memory_rows.proofs.shifts.lower_rows.Goals as goal
 
 pub returns : goal.returns

@@ -1,5 +1,4 @@
-use Rattle.basics.proofs.Kit.{◌-◌, arith}
-use Rattle.memory_rows.proofs.Eights.{taken_fits, fit_then, Raising, raising_start, raising_iteration, raising_end}
+use Rattle.memory_rows.proofs.Eights.{Raising}
 use Rattle.memory_rows.proofs.shifts.raise_eights.Given as goal
 
 abbrev pub invariant-loop-k : goal.invariant-loop-k

@@ -1,6 +1,5 @@
 -- `memory_rows::shifts::raise_rows` meets its contract: eight or more by `raise_eights`, fewer by a move of each column (`raised_rows`).
 use Rattle.memory_rows.proofs.Moving.{raised_rows}
-use Rattle.basics.proofs.Kit.{rules}
 use Rattle.memory_rows.proofs.shifts.raise_rows.Goals as goal
 
 pub returns : goal.returns

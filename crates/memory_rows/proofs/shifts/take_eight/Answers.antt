@@ -1,5 +1,5 @@
 -- `memory_rows::shifts::take_eight` meets its contract: each array holds the bytes of its column.
-use Rattle.basics.proofs.Kit.{ap, ◌∙◌, ℕ, ◌+◌, ◌*◌, rules}
+use Rattle.basics.proofs.Kit.{ap, ◌∙◌, ℕ, ◌+◌, ◌*◌}
 use Rattle.memory_bytes.specs.Bytes.{bytes}
 use Rattle.memory_bytes.proofs.Bytes.{copied_whole}
 use Rattle.memory_rows.proofs.shifts.take_eight.Goals as goal

@@ -1,6 +1,6 @@
 -- `memory_rows::slots::fill_slot` meets its contract: number, owner and payload are written one after the other (`slot_filled`).
 use Rattle.memory_rows.proofs.Moving.{slot_filled}
-use Rattle.basics.proofs.Kit.{rules, arith}
+use Rattle.basics.proofs.Kit.{arith}
 use Rattle.memory_rows.proofs.slots.fill_slot.Goals as goal
 
 pub returns : goal.returns

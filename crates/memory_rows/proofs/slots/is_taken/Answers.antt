@@ -5,7 +5,7 @@ use Rattle.memory_bytes.specs.Columns.{equals, names}
 use Rattle.basics.specs.Lists.{tab}
 use Rattle.memory_bytes.specs.Bytes.{column2}
 use Rattle.basics.specs.Basics.{any}
-use Rattle.basics.proofs.Kit.{sym, ◌∙◌, rules, arith}
+use Rattle.basics.proofs.Kit.{sym, ◌∙◌, arith}
 use Rattle.memory_rows.proofs.slots.is_taken.Goals as goal
 
 pub returns-then-s-eq0 : goal.returns-then-s-eq0

@@ -1,7 +1,7 @@
 -- `memory_rows::slots::put_cells` meets its contract: key, reference and state are written, each in its column (`cells_put`).
 use Rattle.memory_rows.proofs.Moving.{cells_put}
 use Rattle.memory_bytes.proofs.Moves.{write_first, write_end}
-use Rattle.basics.proofs.Kit.{refl, ◌∙◌, [], length-set, rules, arith}
+use Rattle.basics.proofs.Kit.{refl, ◌∙◌, [], length-set, arith}
 use Rattle.memory_rows.proofs.slots.put_cells.Goals as goal
 
 pub shape_of-m : goal.shape_of-m

@@ -1,8 +1,6 @@
-use Rattle.memory_rows.proofs.FreeSlots.{fewer}
-use Rattle.memory_rows.proofs.Access.{sized}
 use Rattle.memory_rows.specs.Cells.{is_taken}
 use Rattle.memory_layout.specs.Flat.{capacity_of}
-use Rattle.basics.proofs.Kit.{◌≡◌, sym, ◌∙◌, true, ℕ, ◌+◌, ◌<◌, ◌-◌, below_none, below_more, arith}
+use Rattle.basics.proofs.Kit.{◌≡◌, true, ℕ, ◌<◌, ◌-◌}
 use Rattle.memory_rows.proofs.slots.search_slot.Given as goal
 
 abbrev pub invariant-loop-s : goal.invariant-loop-s

@@ -1,10 +1,10 @@
 -- `memory_rows::slots::zero_taken` meets its contract. The invariant (`AnyFrom`): the answer is hit, or whether one of the rows from i on is in slot 0.
 use Rattle.memory_rows.specs.Cells.{slot_in}
 use Rattle.memory_layout.specs.Views.{slot_of}
-use Rattle.memory_bytes.proofs.Scans.{AnyFrom, any_starts, any_iterates, any_ends}
+use Rattle.memory_bytes.proofs.Scans.{any_starts, any_iterates, any_ends}
 use Rattle.basics.proofs.Searches.{any_start}
 use Rattle.memory_bytes.specs.Columns.{equals}
-use Rattle.basics.proofs.Kit.{sym, ap, ◌∙◌, ℕ, ◌+◌, ◌*◌, ◌-◌, arith}
+use Rattle.basics.proofs.Kit.{sym, ap, ◌∙◌, ℕ, ◌+◌, ◌*◌, arith}
 use Rattle.memory_bytes.specs.Bytes.{le2}
 use Rattle.memory_rows.proofs.slots.zero_taken.Goals as goal
 
