@@ -16,7 +16,8 @@ ROOT = sys.argv[1] if len(sys.argv) > 1 else "."
 CRATES = os.path.join(ROOT, "crates")
 WORD = r"[^\s(){}.;,@\"«»\[\]\\`]+"
 TOKEN = re.compile(r"(\.?)(" + WORD + ")")
-DECLARED = re.compile(r"^([ ]*)(?:(?:unfoldable|abbrev|pub|opaque)[ ]+)*(" + WORD + r")[ ]+:[ ](.*)$")
+DECLARED = re.compile(r"^([ ]*)(?:(?:unfoldable|abbrev|pub|opaque)[ ]+)*((?:" + WORD + r"[ ]+)+):[ ](.*)$")
+NAME = re.compile(r"[a-z][\w'-]*")
 USED = re.compile(r"^[ ]*(?:pub[ ]+|ghost[ ]+)*use[ ]+([^\s{};]+?)\.\{([^}]*)\}", re.M)
 MADE = ("Proof.antt", "Answers.antt", "Invariants.antt")
 
@@ -54,8 +55,12 @@ def declarations(path):
         if line[:1].strip() and not line.startswith("--"):
             kind = "field" if re.match(r"(?:pub |abbrev )*(?:record|data) ", line) else "word"
         m = DECLARED.match(line)
-        if m and not line.lstrip().startswith("--") and not is_answer(path, m[2], m[3]):
-            yield m[2], kind if m[1] else "word"
+        if not m or line.lstrip().startswith("--"):
+            continue
+        # One name, or several of one type.
+        for name in m[2].split() if all(NAME.fullmatch(it) for it in m[2].split()) else m[2].split()[-1:]:
+            if not is_answer(path, name, m[3]):
+                yield name, kind if m[1] else "word"
 
 
 def own_crates():

@@ -15,7 +15,7 @@ use Rattle.memory_layout.specs.Store.{store_of, HoldsNow}
 use Rattle.memory_layout.specs.Places.{opens_at}
 use Rattle.model.specs.Transactions.{open_numbers}
 use Rattle.model.proofs.Owners.{numbers_length}
-use Rattle.log_records.specs.Records.{abortedBy, encode_records}
+use Rattle.log_records.specs.Records.{aborted_by, encode_records}
 use Rattle.log_model.specs.Repeats.{repeat_all}
 use Rattle.log_model.specs.RollForward.{aborts_of, zeroed_from}
 use Rattle.call_forward.specs.Rolling.{store_now, AbortsFit, MayAbort, Aborted}
@@ -54,7 +54,7 @@ length_cleared log e h = length-append (take e log) (zeros (length log - e)) ∙
 
 -- ---- both
 
-aborts_are : (m : List ℕ) → aborts_of (store_now m) ≡ map abortedBy (sorted (open_numbers (flat_of m).opens))
+aborts_are : (m : List ℕ) → aborts_of (store_now m) ≡ map aborted_by (sorted (open_numbers (flat_of m).opens))
 unfolding aborts_of store_of
 aborts_are m = refl
 
@@ -65,10 +65,10 @@ module _ (m log : List ℕ) (e n : ℕ) (h : MayAbort m log e n) (ns : List ℕ)
       let k = ap length z ∙ length_cleared log e (omega (arith, h.room)) in
       record { low = subst (AllOf (λ tx. tx < transaction_limit)) (sym q) (sorted_low m b); room = omega (arith, h.room, h.count, l, k) }
 
-  pub all_aborted : (m' log' : List ℕ) → HoldsNow m m' (repeat_all (map abortedBy ns) (store_now m)) → log' ≡ over log1 e (encode_records (map abortedBy ns)) → Aborted m log e m' log'
+  pub all_aborted : (m' log' : List ℕ) → HoldsNow m m' (repeat_all (map aborted_by ns) (store_now m)) → log' ≡ over log1 e (encode_records (map aborted_by ns)) → Aborted m log e m' log'
   all_aborted m' log' s w =
-      let a : map abortedBy ns ≡ aborts_of (store_now m) = ap (map abortedBy) q ∙ sym (aborts_are m) in
+      let a : map aborted_by ns ≡ aborts_of (store_now m) = ap (map aborted_by) q ∙ sym (aborts_are m) in
       record {
         memory = subst (λ v. HoldsNow m m' (repeat_all v (store_now m))) a s;
-        bytes = w ∙ ap (λ v. over v e (encode_records (map abortedBy ns))) z ∙ ap (λ v. over (zeroed_from e log) e (encode_records v)) a;
+        bytes = w ∙ ap (λ v. over v e (encode_records (map aborted_by ns))) z ∙ ap (λ v. over (zeroed_from e log) e (encode_records v)) a;
       }

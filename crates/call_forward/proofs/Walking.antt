@@ -6,7 +6,7 @@ use Rattle.basics.proofs.Facts.{by-option, never}
 use Rattle.basics.proofs.Elements.{some_eq, all_drop}
 use Rattle.block_forms.specs.Numbers.{be4}
 use Rattle.block_forms.specs.Tuple.{Byte, AllBytes}
-use Rattle.log_records.specs.Records.{LogRecord, opened_by, committedBy, abortedBy, insertedBy, replacedBy, deleted_by, mark_of, log_fields, log_size}
+use Rattle.log_records.specs.Records.{LogRecord, opened_by, committed_by, aborted_by, inserted_by, replaced_by, deleted_by, mark_of, log_fields, log_size}
 use Rattle.log_records.specs.Records.{decode_record, ended, followed_by, read_log}
 use Rattle.log_records.specs.Laws.{Read}
 use Rattle.log_records.specs.Entries.{change_is, entry_as, entry_of, entry_in, entry_size}
@@ -25,20 +25,20 @@ use Rattle.call_forward.proofs.Repeated.{Left, left_start, left_next, left_stop,
 -- bs are the payload of r, if it has one
 abbrev pub HasPayload : LogRecord → List ℕ → Type 0
 HasPayload (opened_by tx) bs = Unit {0}
-HasPayload (committedBy tx) bs = Unit {0}
-HasPayload (abortedBy tx) bs = Unit {0}
-HasPayload (insertedBy tx t k xs) bs = bs ≡ xs
-HasPayload (replacedBy tx t k xs) bs = bs ≡ xs
+HasPayload (committed_by tx) bs = Unit {0}
+HasPayload (aborted_by tx) bs = Unit {0}
+HasPayload (inserted_by tx t k xs) bs = bs ≡ xs
+HasPayload (replaced_by tx t k xs) bs = bs ≡ xs
 HasPayload (deleted_by tx t k) bs = Unit {0}
 HasPayload (mark_of l txs) bs = Unit {0}
 
 pub entry_repeated : (r : LogRecord) (bs : List ℕ) → HasPayload r bs → {m m' : List ℕ} {ok : Bool} → OneRepeated (entry_is (entry_as r) bs) m ok m' → OneRepeated r m ok m'
 unfolding entry_is entry_as change_is
 entry_repeated (opened_by tx) bs h o = o
-entry_repeated (committedBy tx) bs h o = o
-entry_repeated (abortedBy tx) bs h o = o
-entry_repeated (insertedBy tx t k xs) bs h {m} {m'} {ok} o = subst (λ z. OneRepeated (insertedBy tx t k z) m ok m') h o
-entry_repeated (replacedBy tx t k xs) bs h {m} {m'} {ok} o = subst (λ z. OneRepeated (replacedBy tx t k z) m ok m') h o
+entry_repeated (committed_by tx) bs h o = o
+entry_repeated (aborted_by tx) bs h o = o
+entry_repeated (inserted_by tx t k xs) bs h {m} {m'} {ok} o = subst (λ z. OneRepeated (inserted_by tx t k z) m ok m') h o
+entry_repeated (replaced_by tx t k xs) bs h {m} {m'} {ok} o = subst (λ z. OneRepeated (replaced_by tx t k z) m ok m') h o
 entry_repeated (deleted_by tx t k) bs h o = o
 entry_repeated (mark_of l txs) bs h {m} {m'} {ok} o = marks o
   where
@@ -52,14 +52,14 @@ behind_place a b c d e f g h bs rest k n p q = rw (p, q) (take-append_seam bs re
 payload_read : (xs : List ℕ) (r : LogRecord) → Read xs r → (k n : ℕ) → k ≡ min 8 (log_size r) → n ≡ log_size r - k → HasPayload r (take n (drop k xs))
 unfolding log_size log_fields be4
 payload_read xs (opened_by tx) d k n p q = tt
-payload_read xs (committedBy tx) d k n p q = tt
-payload_read xs (abortedBy tx) d k n p q = tt
-payload_read xs (insertedBy tx t key bs) d k n p q =
-    let e = tuple_bytes (insertedBy tx t key bs) 2 tx t key bs refl (omega arith) d.fits.0 d.fits.1 in
+payload_read xs (committed_by tx) d k n p q = tt
+payload_read xs (aborted_by tx) d k n p q = tt
+payload_read xs (inserted_by tx t key bs) d k n p q =
+    let e = tuple_bytes (inserted_by tx t key bs) 2 tx t key bs refl (omega arith) d.fits.0 d.fits.1 in
     let z = tuple_size 2 tx t key bs in
     ap (λ v. take n (drop k v)) (d.is ∙ ap (λ v. v ++ d.rest) e) ∙ behind_place _ _ _ _ _ _ _ _ bs d.rest k n (omega (arith, p, z)) (omega (arith, p, q, z))
-payload_read xs (replacedBy tx t key bs) d k n p q =
-    let e = tuple_bytes (replacedBy tx t key bs) 3 tx t key bs refl (omega arith) d.fits.0 d.fits.1 in
+payload_read xs (replaced_by tx t key bs) d k n p q =
+    let e = tuple_bytes (replaced_by tx t key bs) 3 tx t key bs refl (omega arith) d.fits.0 d.fits.1 in
     let z = tuple_size 3 tx t key bs in
     ap (λ v. take n (drop k v)) (d.is ∙ ap (λ v. v ++ d.rest) e) ∙ behind_place _ _ _ _ _ _ _ _ bs d.rest k n (omega (arith, p, z)) (omega (arith, p, q, z))
 payload_read xs (deleted_by tx t key) d k n p q = tt

@@ -3,7 +3,7 @@
 ghost use Rattle.std.specs.Prelude.{◌≡◌, true, false, map, min, length, drop};
 ghost use Rattle.basics.specs.Lists.{over};
 ghost use Rattle.model.specs.Recover.{recover};
-ghost use Rattle.log_records.specs.Records.{opened_by, abortedBy, encode_records, read_log};
+ghost use Rattle.log_records.specs.Records.{opened_by, aborted_by, encode_records, read_log};
 ghost use Rattle.log_records.specs.Entries.{change_is};
 ghost use Rattle.log_model.specs.Repeats.{repeat_all};
 ghost use Rattle.log_model.specs.RollForward.{behind_mark, to_repeat, forward_below};
@@ -189,7 +189,7 @@ fn repeat_since(s: &mut [u8], log: &[u8]) -> u64
 // Aborts each of these transactions.
 fn abort_each(s: &mut [u8], numbers: &[u32])
     requires { holds_store s.old ≡ true }
-    ensures { HoldsNow s.old s.new (repeat_all (map abortedBy numbers.now) (store_now s.old)) }
+    ensures { HoldsNow s.old s.new (repeat_all (map aborted_by numbers.now) (store_now s.old)) }
 {
     let mut i: usize = 0;
     while i < numbers.len() {
@@ -204,7 +204,7 @@ fn abort_each(s: &mut [u8], numbers: &[u32])
 // Writes the aborts of these transactions to the log, from its end on.
 fn log_aborts(log: &mut [u8], end: usize, numbers: &[u32])
     requires { AbortsFit log.old end numbers.now }
-    ensures { log.new ≡ over log.old end (encode_records (map abortedBy numbers.now)) }
+    ensures { log.new ≡ over log.old end (encode_records (map aborted_by numbers.now)) }
 {
     let count = numbers.len();
     let mut i: usize = 0;

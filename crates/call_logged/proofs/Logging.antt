@@ -12,7 +12,7 @@ use Rattle.model.specs.Checked.{insert_checked_call}
 use Rattle.model.specs.Calls.{TransactionCall, opens, inserts, inserts_checked, replaces, deletes, commits, aborts, reads, lists, crossings, transact, TypedCall, accepted, with_room}
 use Rattle.model.proofs.Effects.{unless_accepted}
 use Rattle.memory_layout.specs.Store.{store_in, HoldsNow}
-use Rattle.log_records.specs.Records.{LogRecord, opened_by, committedBy, abortedBy, insertedBy, replacedBy, deleted_by, RecordFits, short_fields, delete_fields, log_fields, log_size, encode_record}
+use Rattle.log_records.specs.Records.{LogRecord, opened_by, committed_by, aborted_by, inserted_by, replaced_by, deleted_by, RecordFits, short_fields, delete_fields, log_fields, log_size, encode_record}
 use Rattle.log_records.specs.Entries.{change_is, entry_as}
 use Rattle.log_records.specs.declared.Change.{Change}
 use Rattle.log_records.specs.declared.Change.TheVariants.{Open, Insert, Replace, Delete, Commit, Abort}
@@ -178,35 +178,35 @@ pub writes_open : (tx : ℕ) → Writes (opens tx) (opened_by tx) (Open (tx % 40
 unfolding record_of change_is entry_as log_size log_fields short_fields
 writes_open tx = record { logged = refl; typed = tt; is = λ f. ap opened_by (same_tx tx f); told = λ f. ap (λ x. Call (Open x)) (sym (same_tx tx f)); size = refl }
 
-pub writes_commit : (tx : ℕ) → Writes (commits tx) (committedBy tx) (Commit (tx % 4096)) [] 2
+pub writes_commit : (tx : ℕ) → Writes (commits tx) (committed_by tx) (Commit (tx % 4096)) [] 2
 unfolding record_of change_is entry_as log_size log_fields short_fields
-writes_commit tx = record { logged = refl; typed = tt; is = λ f. ap committedBy (same_tx tx f); told = λ f. ap (λ x. Call (Commit x)) (sym (same_tx tx f)); size = refl }
+writes_commit tx = record { logged = refl; typed = tt; is = λ f. ap committed_by (same_tx tx f); told = λ f. ap (λ x. Call (Commit x)) (sym (same_tx tx f)); size = refl }
 
-pub writes_abort : (tx : ℕ) → Writes (aborts tx) (abortedBy tx) (Abort (tx % 4096)) [] 2
+pub writes_abort : (tx : ℕ) → Writes (aborts tx) (aborted_by tx) (Abort (tx % 4096)) [] 2
 unfolding record_of change_is entry_as log_size log_fields short_fields
-writes_abort tx = record { logged = refl; typed = tt; is = λ f. ap abortedBy (same_tx tx f); told = λ f. ap (λ x. Call (Abort x)) (sym (same_tx tx f)); size = refl }
+writes_abort tx = record { logged = refl; typed = tt; is = λ f. ap aborted_by (same_tx tx f); told = λ f. ap (λ x. Call (Abort x)) (sym (same_tx tx f)); size = refl }
 
 module _ (tx t k : ℕ) (bs : List ℕ) (key : k < 4294967296) (bytes : AllBytes bs) where
-  pub writes_insert : Writes (inserts tx t k bs) (insertedBy tx t k bs) (Insert (tx % 4096) (t % 8) k (length bs)) bs (8 + length bs)
+  pub writes_insert : Writes (inserts tx t k bs) (inserted_by tx t k bs) (Insert (tx % 4096) (t % 8) k (length bs)) bs (8 + length bs)
   unfolding record_of change_is entry_as log_size log_fields
   writes_insert = record {
     logged = refl;
     typed = (key, bytes);
-    is = λ f. ap₂ (λ x y. insertedBy x y k bs) (same_tx tx f.0.transaction) (same_table t f.0.table);
+    is = λ f. ap₂ (λ x y. inserted_by x y k bs) (same_tx tx f.0.transaction) (same_table t f.0.table);
     told = λ f. ap₂ (λ x y. Call (Insert x y k (length bs))) (sym (same_tx tx f.0.transaction)) (sym (same_table t f.0.table));
     size = tuple_size 2 tx t k bs;
   }
 
-  pub writes_checked : (hours : List ℕ) → Writes (inserts_checked tx t k bs hours) (insertedBy tx t k bs) (Insert (tx % 4096) (t % 8) k (length bs)) bs (8 + length bs)
+  pub writes_checked : (hours : List ℕ) → Writes (inserts_checked tx t k bs hours) (inserted_by tx t k bs) (Insert (tx % 4096) (t % 8) k (length bs)) bs (8 + length bs)
   unfolding record_of
   writes_checked hours = record { logged = refl; typed = (key, bytes); is = writes_insert.is; told = writes_insert.told; size = writes_insert.size }
 
-  pub writes_replace : Writes (replaces tx t k bs) (replacedBy tx t k bs) (Replace (tx % 4096) (t % 8) k (length bs)) bs (8 + length bs)
+  pub writes_replace : Writes (replaces tx t k bs) (replaced_by tx t k bs) (Replace (tx % 4096) (t % 8) k (length bs)) bs (8 + length bs)
   unfolding record_of change_is entry_as log_size log_fields
   writes_replace = record {
     logged = refl;
     typed = (key, bytes);
-    is = λ f. ap₂ (λ x y. replacedBy x y k bs) (same_tx tx f.0.transaction) (same_table t f.0.table);
+    is = λ f. ap₂ (λ x y. replaced_by x y k bs) (same_tx tx f.0.transaction) (same_table t f.0.table);
     told = λ f. ap₂ (λ x y. Call (Replace x y k (length bs))) (sym (same_tx tx f.0.transaction)) (sym (same_table t f.0.table));
     size = tuple_size 3 tx t k bs;
   }

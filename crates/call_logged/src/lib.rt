@@ -4,7 +4,7 @@ ghost use Rattle.std.specs.Prelude.{◌≡◌, ◌+◌, leb};
 ghost use Rattle.model.specs.Transactions.{open_call, insert_call, replace_call, delete_call, commit_call, abort_call};
 ghost use Rattle.model.specs.Checked.{insert_checked_call};
 ghost use Rattle.model.specs.Checkpoint.{begin_call};
-ghost use Rattle.log_records.specs.Records.{opened_by, committedBy, abortedBy, insertedBy, replacedBy, deleted_by, mark_of};
+ghost use Rattle.log_records.specs.Records.{opened_by, committed_by, aborted_by, inserted_by, replaced_by, deleted_by, mark_of};
 ghost use Rattle.log_model.specs.Logged.{mark_for};
 ghost use Rattle.log_records.specs.Entries.{change_is};
 ghost use Rattle.call_contracts.specs.Logged.{Logs};
@@ -90,7 +90,7 @@ pub fn logged_insert(
     key: u32,
     payload: &[u8],
 ) -> Logged
-    ensures { Logs (insert_call transaction table key payload.now) (λ s. insertedBy transaction table key payload.now) m.old log.old end result m.new log.new }
+    ensures { Logs (insert_call transaction table key payload.now) (λ s. inserted_by transaction table key payload.now) m.old log.old end result m.new log.new }
 {
     let room = has_room(log.len(), end, PLACE, payload.len());
     let a = call_transactions::write_if(m, room, true, transaction, table, key, false, payload);
@@ -114,7 +114,7 @@ pub fn logged_insert_checked(
     payload: &[u8],
     hours: &[u8],
 ) -> Logged
-    ensures { Logs (insert_checked_call transaction table key payload.now hours.now) (λ s. insertedBy transaction table key payload.now) m.old log.old end result m.new log.new }
+    ensures { Logs (insert_checked_call transaction table key payload.now hours.now) (λ s. inserted_by transaction table key payload.now) m.old log.old end result m.new log.new }
 {
     let room = has_room(log.len(), end, PLACE, payload.len());
     let a = call_checked::insert_checked_if(m, room, transaction, table, key, payload, hours);
@@ -136,7 +136,7 @@ pub fn logged_replace(
     key: u32,
     payload: &[u8],
 ) -> Logged
-    ensures { Logs (replace_call transaction table key payload.now) (λ s. replacedBy transaction table key payload.now) m.old log.old end result m.new log.new }
+    ensures { Logs (replace_call transaction table key payload.now) (λ s. replaced_by transaction table key payload.now) m.old log.old end result m.new log.new }
 {
     let room = has_room(log.len(), end, PLACE, payload.len());
     let a = call_transactions::write_if(m, room, false, transaction, table, key, false, payload);
@@ -170,7 +170,7 @@ pub fn logged_delete(
 }
 
 pub fn logged_commit(m: &mut [u8], log: &mut [u8], end: u64, transaction: u64) -> Logged
-    ensures { Logs (commit_call transaction) (λ s. committedBy transaction) m.old log.old end result m.new log.new }
+    ensures { Logs (commit_call transaction) (λ s. committed_by transaction) m.old log.old end result m.new log.new }
 {
     let room = has_room(log.len(), end, SHORT, 0);
     let a = call_transactions::end_if(m, room, transaction, true);
@@ -181,7 +181,7 @@ pub fn logged_commit(m: &mut [u8], log: &mut [u8], end: u64, transaction: u64) -
 }
 
 pub fn logged_abort(m: &mut [u8], log: &mut [u8], end: u64, transaction: u64) -> Logged
-    ensures { Logs (abort_call transaction) (λ s. abortedBy transaction) m.old log.old end result m.new log.new }
+    ensures { Logs (abort_call transaction) (λ s. aborted_by transaction) m.old log.old end result m.new log.new }
 {
     let room = has_room(log.len(), end, SHORT, 0);
     let a = call_transactions::end_if(m, room, transaction, false);

@@ -4,7 +4,7 @@ use Rattle.basics.proofs.Kit.{drop-drop, take-add, drop-cons, arith}
 use Rattle.basics.specs.Basics.{if◌then◌else◌}
 use Rattle.block_forms.specs.Tuple.{Tuple}
 use Rattle.model.specs.State.{Held, Page}
-use Rattle.model.specs.Places.{tagged, carry_out, remove_row, commit_row, plan_newest, commitPlace, OnlyRow}
+use Rattle.model.specs.Places.{tagged, carry_out, remove_row, commit_row, plan_newest, commit_place, OnlyRow}
 use Rattle.memory_layout.specs.Flat.{flat_of}
 use Rattle.memory_layout.specs.Store.{store_of, holds_store, HoldsNow}
 use Rattle.engine_pages.specs.Pages.{with_pages, PagesNow, pages_of}
@@ -125,7 +125,7 @@ newest_marked n a e k ps h = rw (ap (λ (x : Tuple). x.mark) (applied_is (row_fr
 
 newest_kept : (n a e k : ℕ) (ps : List Page) → a ≤ k → k < e → e ≤ length (tagged ps) → (row_from (tagged ps) k).1.tuple.mark ≡ false
     → closed_run n a e k ps
-    ≡ carry_out n (commitPlace (entry_place n (tagged ps) k)
+    ≡ carry_out n (commit_place (entry_place n (tagged ps) k)
     ∷ (picks is_live (entry_place n (tagged ps) a) (take (k - a) (drop a (tagged ps)))
     ++ picks is_live (suc (entry_place n (tagged ps) k)) (take (e - suc k) (drop (suc k) (tagged ps))))) ps
 unfolding closed_run plan_newest if◌then◌else◌
@@ -136,7 +136,7 @@ newest_kept n a e k ps l u m h =
     let t = length-take (k - a) (drop a xs) in
     let z : entry_place n xs k ≡ entry_place n xs a + length ws = omega arith in
     rw (ap (λ (x : Tuple). x.mark) (applied_is (row_from (tagged ps) k).1), h, split_run (tagged ps) a e k l u m)
-    (ap (λ os. carry_out n (commitPlace (entry_place n xs k) ∷ os) ps) (other_picks (entry_place n xs a) (entry_place n xs k) ws (row_from xs k) (take (e - suc k) (drop (suc k) xs)) z))
+    (ap (λ os. carry_out n (commit_place (entry_place n xs k) ∷ os) ps) (other_picks (entry_place n xs a) (entry_place n xs k) ws (row_from xs k) (take (e - suc k) (drop (suc k) xs)) z))
 
 -- a delete mark
 pub run_marked : {m m' : List ℕ} {a e k r : ℕ} → Within m a e k → (row_from (tagged_of m) k).1.tuple.mark ≡ true → LiveRemoved m m' a (e - a) r

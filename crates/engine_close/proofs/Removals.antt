@@ -7,7 +7,7 @@ use Rattle.image_rows.specs.Rows.{is_by, is_own}
 use Rattle.model.specs.State.{Held, Page}
 use Rattle.model.specs.Rules.{is_removing, applied}
 use Rattle.model.specs.Sight.{held}
-use Rattle.model.specs.Places.{PlaceOp, commitPlace, removePlace, carry_out, remove_row, commit_row, tagged, placed, live_of, own_placed, remove_places, all_placed, abort_plan}
+use Rattle.model.specs.Places.{PlaceOp, commit_place, remove_place, carry_out, remove_row, commit_row, tagged, placed, live_of, own_placed, remove_places, all_placed, abort_plan}
 use Rattle.memory_rows.specs.Rows.{is_live_own}
 use Rattle.engine_close.specs.Close.{is_live, row_from, is_own_row, NextOwn, entry_place, removed_live, aborted_from, Behind}
 use Rattle.model.proofs.Rows.{held_plain, as_row}
@@ -22,12 +22,12 @@ place_now : (n i : ℕ) (ps : List Page) → entry_place n (tagged ps) i - (n - 
 place_now n i ps = omega (arith, held_length ps)
 
 pub carry_commit : (n i : ℕ) (os : List PlaceOp) (ps : List Page)
-    → carry_out n (commitPlace (entry_place n (tagged ps) i) ∷ os) ps ≡ carry_out n os (commit_row i ps)
+    → carry_out n (commit_place (entry_place n (tagged ps) i) ∷ os) ps ≡ carry_out n os (commit_row i ps)
 unfolding carry_out
 carry_commit n i os ps = ap (λ z. carry_out n os (commit_row z ps)) (place_now n i ps)
 
 pub carry_remove : (n i : ℕ) (os : List PlaceOp) (ps : List Page)
-    → carry_out n (removePlace (entry_place n (tagged ps) i) ∷ os) ps ≡ carry_out n os (remove_row i ps)
+    → carry_out n (remove_place (entry_place n (tagged ps) i) ∷ os) ps ≡ carry_out n os (remove_row i ps)
 unfolding carry_out
 carry_remove n i os ps = ap (λ z. carry_out n os (remove_row z ps)) (place_now n i ps)
 
@@ -89,13 +89,13 @@ module _ (f : Held → Bool) where
   -- the removals of those that pass, the first being at place i
   unfoldable pub picks : ℕ → List (ℕ × Held) → List PlaceOp
   picks i [] = []
-  picks i (x ∷ xs) = if f x.1 then removePlace i ∷ picks (suc i) xs else picks (suc i) xs
+  picks i (x ∷ xs) = if f x.1 then remove_place i ∷ picks (suc i) xs else picks (suc i) xs
 
   picks_pass : (i : ℕ) (x : ℕ × Held) (xs : List (ℕ × Held)) → f x.1 ≡ false → picks i (x ∷ xs) ≡ picks (suc i) xs
   unfolding picks if◌then◌else◌
   picks_pass i x xs e = rw e
 
-  picks_hit : (i : ℕ) (x : ℕ × Held) (xs : List (ℕ × Held)) → f x.1 ≡ true → picks i (x ∷ xs) ≡ removePlace i ∷ picks (suc i) xs
+  picks_hit : (i : ℕ) (x : ℕ × Held) (xs : List (ℕ × Held)) → f x.1 ≡ true → picks i (x ∷ xs) ≡ remove_place i ∷ picks (suc i) xs
   unfolding picks if◌then◌else◌
   picks_hit i x xs e = rw e
 
@@ -135,7 +135,7 @@ module _ (f : Held → Bool) where
   picks_append i (x ∷ xs) ys =
       let z : suc i + length xs ≡ i + suc (length xs) = omega arith in
       let r = picks_append (suc i) xs ys ∙ ap (λ k. picks (suc i) xs ++ picks k ys) z in
-      by (f x.1) (λ h. picks_hit i x (xs ++ ys) h ∙ ap (λ l. removePlace i ∷ l) r ∙ ap (λ l. l ++ picks (i + suc (length xs)) ys) (sym (picks_hit i x xs h)))
+      by (f x.1) (λ h. picks_hit i x (xs ++ ys) h ∙ ap (λ l. remove_place i ∷ l) r ∙ ap (λ l. l ++ picks (i + suc (length xs)) ys) (sym (picks_hit i x xs h)))
       (λ h. picks_pass i x (xs ++ ys) h ∙ r ∙ ap (λ l. l ++ picks (i + suc (length xs)) ys) (sym (picks_pass i x xs h)))
 
   -- first a rows, then b more
@@ -172,14 +172,14 @@ pub live_picks : (i : ℕ) (xs : List (ℕ × Held)) → remove_places (live_of 
 unfolding remove_places live_of placed picks is_live if◌then◌else◌
 live_picks i [] = refl
 live_picks i (x ∷ xs) =
-    by (is_removing x.1.pending) (λ h. rw h (live_picks (suc i) xs)) (λ h. rw h (ap (λ z. removePlace i ∷ z) (live_picks (suc i) xs)))
+    by (is_removing x.1.pending) (λ h. rw h (live_picks (suc i) xs)) (λ h. rw h (ap (λ z. remove_place i ∷ z) (live_picks (suc i) xs)))
 
 pub own_picks : (tx i : ℕ) (xs : List (ℕ × Held)) → remove_places (keep (own_placed tx) (live_of (placed i xs))) ≡ picks (is_live_own tx) i xs
 unfolding remove_places live_of placed keep own_placed is_own picks is_live_own if◌then◌else◌
 own_picks tx i [] = refl
 own_picks tx i (x ∷ xs) =
     by (is_removing x.1.pending) (λ h. rw h (own_picks tx (suc i) xs))
-    (λ h. by (is_by tx (applied x.1).owner) (λ b. rw (h, b) (ap (λ z. removePlace i ∷ z) (own_picks tx (suc i) xs))) (λ b. rw (h, b) (own_picks tx (suc i) xs)))
+    (λ h. by (is_by tx (applied x.1).owner) (λ b. rw (h, b) (ap (λ z. remove_place i ∷ z) (own_picks tx (suc i) xs))) (λ b. rw (h, b) (own_picks tx (suc i) xs)))
 
 pub live_removing : (n i k : ℕ) (ps : List Page) → removed_live n i k ps ≡ removing is_live n i k ps
 unfolding removed_live removing

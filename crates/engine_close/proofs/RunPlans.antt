@@ -4,7 +4,7 @@ use Rattle.basics.specs.Basics.{if◌then◌else◌, keep, last}
 use Rattle.basics.proofs.Facts.{by, lie, AllOf}
 use Rattle.image_rows.specs.Rows.{is_by, is_own}
 use Rattle.model.specs.Rules.{is_removing, applied}
-use Rattle.model.specs.Places.{removePlace, Placed, placed, same_key, live_of, own_placed, remove_places, plan_newest, plan_run}
+use Rattle.model.specs.Places.{remove_place, Placed, placed, same_key, live_of, own_placed, remove_places, plan_newest, plan_run}
 use Rattle.model.proofs.Rows.{Entry}
 use Rattle.model.proofs.RunParts.{given_from, from_none, from_skip, from_first}
 use Rattle.memory_rows.specs.Rows.{is_live_own}
@@ -76,7 +76,7 @@ behind_picks i k [] h = refl
 behind_picks i k (y ∷ ys) h =
     let e : eqb i k ≡ false = ne_eqb i k (λ q. omega arith) in
     let r = behind_picks (suc i) k ys (omega arith) in
-    by (is_removing y.1.pending) (λ d. rw d r) (λ d. rw (d, e) (ap (λ z. removePlace i ∷ z) r))
+    by (is_removing y.1.pending) (λ d. rw d r) (λ d. rw (d, e) (ap (λ z. remove_place i ∷ z) r))
 
 -- all but place k
 pub other_picks : (i k : ℕ) (ws : List Entry) (x : Entry) (ys : List Entry) → k ≡ i + length ws
@@ -90,4 +90,4 @@ other_picks i k [] x ys e =
 other_picks i k (w ∷ ws) x ys e =
     let s : eqb i k ≡ false = ne_eqb i k (λ q. omega arith) in
     let r = other_picks (suc i) k ws x ys (omega arith) in
-    by (is_removing w.1.pending) (λ d. rw d r) (λ d. rw (d, s) (ap (λ z. removePlace i ∷ z) r))
+    by (is_removing w.1.pending) (λ d. rw d r) (λ d. rw (d, s) (ap (λ z. remove_place i ∷ z) r))

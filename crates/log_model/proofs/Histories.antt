@@ -30,7 +30,7 @@ use Rattle.model.proofs.Starts.{kept_well, made_well}
 use Rattle.model.proofs.Bytes.{make_accepted}
 use Rattle.model.proofs.Laws.{refused_keeps, reads_only}
 use Rattle.model.proofs.Agree.{agree_refl, agree_trans, checkpoints_agree}
-use Rattle.log_records.specs.Records.{LogRecord, abortedBy, RecordFits, log_size, encode_record, encode_records, read_log, ended, end_of, is_mark}
+use Rattle.log_records.specs.Records.{LogRecord, aborted_by, RecordFits, log_size, encode_record, encode_records, read_log, ended, end_of, is_mark}
 use Rattle.log_records.proofs.Logs.{log_of_records, ended_more}
 use Rattle.log_model.specs.Repeats.{call_of, call_if, repeat, repeat_all, all_accepted}
 use Rattle.log_model.specs.Logged.{record_of, mark_for, record_for, LoggedOutcome, unlogged, appending, logging, logging_if, logged_call}
@@ -360,7 +360,7 @@ quiet (r ∷ rs) past base s = go (call_of r) (quiet rs)
         ap₂ (λ ws z. map (tag base) ws ++ z) ((call_leaves (transacts c) s).image (unfold is_step in refl)) (f (past ++ transacts c ∷ []) base (transact c s).store)
 
 -- aborts are no marks
-aborts_no_mark : (txs : List ℕ) (i : ℕ) → any (is_mark i) (map abortedBy txs) ≡ false
+aborts_no_mark : (txs : List ℕ) (i : ℕ) → any (is_mark i) (map aborted_by txs) ≡ false
 unfolding any is_mark
 aborts_no_mark [] i = refl
 aborts_no_mark (tx ∷ txs) i = aborts_no_mark txs i

@@ -13,7 +13,7 @@ use Rattle.model.specs.Calls.{accepted}
 use Rattle.model.specs.WellFormed.{WellFormed}
 use Rattle.model.specs.Agree.{Agree}
 use Rattle.model.proofs.Agree.{agree_sym, agree_sorted}
-use Rattle.log_records.specs.Records.{LogRecord, opened_by, abortedBy, mark_of, is_mark, from_mark}
+use Rattle.log_records.specs.Records.{LogRecord, opened_by, aborted_by, mark_of, is_mark, from_mark}
 use Rattle.log_model.specs.Repeats.{call_of, call_if, repeat, repeat_all, all_accepted}
 use Rattle.log_model.specs.Logged.{unwritten}
 use Rattle.log_model.specs.RollForward.{opens_of, behind_mark, to_repeat, aborts_of}
@@ -129,7 +129,7 @@ unfolding completed
 brings_back s₀ y rs origin fit w a =
     let t = repeat_all rs s₀ in
     let v = repeat_well rs s₀ fit origin.well in
-    let same : aborts_of y ≡ aborts_of t = unfold aborts_of in ap (map abortedBy) (agree_sorted y t w v a) in
+    let same : aborts_of y ≡ aborts_of t = unfold aborts_of in ap (map aborted_by) (agree_sorted y t w v a) in
     let k = aborts_of_lem y w in
     let b = repeat_agree (aborts_of y) y t (aborts_of_fit y w) w v a (repeat_idle rs s₀ origin.idle) k.0 in
     let c = subst (λ z. Agree (repeat_all (aborts_of y) y) (repeat_all z t)) same b.1 in

@@ -20,7 +20,7 @@ use Rattle.model.specs.Agree.{Agree}
 use Rattle.model.proofs.Owners.{numbers_append, numbers_length}
 use Rattle.model.proofs.Well.{sound}
 use Rattle.model.proofs.Agree.{without_in, count_none}
-use Rattle.log_records.specs.Records.{opened_by, abortedBy}
+use Rattle.log_records.specs.Records.{opened_by, aborted_by}
 use Rattle.log_model.specs.Repeats.{call_of, call_if, repeat, repeat_all, all_accepted}
 use Rattle.log_model.specs.Logged.{unwritten}
 use Rattle.log_model.specs.RollForward.{aborts_of}
@@ -244,11 +244,11 @@ module _ (r z : Store) (w : WellFormed r) (v : WellFormed z) (c : r.capacity ≡
 
 -- ---- aborts
 
-pub aborts_fit : (txs : List ℕ) → AllOf (λ tx. tx ≤ most_transaction) txs → AllRecordsFit (map abortedBy txs)
+pub aborts_fit : (txs : List ℕ) → AllOf (λ tx. tx ≤ most_transaction) txs → AllRecordsFit (map aborted_by txs)
 aborts_fit [] a = tt
 aborts_fit (tx ∷ txs) a = (omega (arith, a.0), aborts_fit txs a.1)
 
-abort_one : (tx : ℕ) (s : Store) → tx ≤ most_transaction → is_in tx (open_numbers s.active) ≡ true → repeat (abortedBy tx) s ≡ closing tx (aborted_pages tx s.pages) s
+abort_one : (tx : ℕ) (s : Store) → tx ≤ most_transaction → is_in tx (open_numbers s.active) ≡ true → repeat (aborted_by tx) s ≡ closing tx (aborted_pages tx s.pages) s
 unfolding repeat call_of call_if transact abort_call not_open unless if◌then◌else◌
 abort_one tx s l h = rw (lt_false most_transaction tx l, h)
 
@@ -257,7 +257,7 @@ abbrev Left : Store → Store → List ℕ → Type 0
 Left s z txs = (u : ℕ) → is_in u (open_numbers z.active) ≡ (is_in u (open_numbers s.active) && not (is_in u txs))
 
 pub aborts_all : (txs : List ℕ) (s : Store) → AllOf (λ tx. tx ≤ most_transaction) txs → distinct txs ≡ true → AllOf (λ tx. is_in tx (open_numbers s.active) ≡ true) txs
-    → (all_accepted (map abortedBy txs) s ≡ true) × Left s (repeat_all (map abortedBy txs) s) txs
+    → (all_accepted (map aborted_by txs) s ≡ true) × Left s (repeat_all (map aborted_by txs) s) txs
 unfolding gives changed
 aborts_all [] s l d o = (unfold all_accepted in refl, λ u. unfold repeat_all is_in any in sym (and_yes (any (eqb u) (open_numbers s.active))))
 aborts_all (tx ∷ txs) s l d o =
@@ -269,8 +269,8 @@ aborts_all (tx ∷ txs) s l d o =
     all_two (λ u. is_in u txs ≡ true) (λ u. is_in u (open_numbers s.active) ≡ true) _
     (λ u i q. out u ∙ ap₂ (λ a b. a && not b) q (member_apart u tx txs i (not-true _ k.0))) txs (all_in (λ u. is_in u txs ≡ true) txs (λ u i. i)) o.1 in
     let r = aborts_all txs z l.1 k.1 still in (
-      accepted_first (abortedBy tx) (map abortedBy txs) s (gives done z) h accepts r.0,
-      subst (λ y. Left s y (tx ∷ txs)) (sym (repeat_first (abortedBy tx) (map abortedBy txs) s (gives done z) h))
+      accepted_first (aborted_by tx) (map aborted_by txs) s (gives done z) h accepts r.0,
+      subst (λ y. Left s y (tx ∷ txs)) (sym (repeat_first (aborted_by tx) (map aborted_by txs) s (gives done z) h))
           (λ u. r.1 u ∙ ap (λ b. b && not (is_in u txs)) (out u) ∙ both (is_in u (open_numbers s.active)) u),
     )
   where

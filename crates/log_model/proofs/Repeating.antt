@@ -10,7 +10,7 @@ use Rattle.model.specs.Agree.{Agree}
 use Rattle.model.proofs.NoStores.{call_leaves}
 use Rattle.model.proofs.Starts.{kept_well}
 use Rattle.model.proofs.Agree.{accepted_idle}
-use Rattle.log_records.specs.Records.{LogRecord, opened_by, committedBy, abortedBy, insertedBy, replacedBy, deleted_by, mark_of, RecordFits}
+use Rattle.log_records.specs.Records.{LogRecord, opened_by, committed_by, aborted_by, inserted_by, replaced_by, deleted_by, mark_of, RecordFits}
 use Rattle.log_model.specs.Repeats.{call_of, call_if, repeat, repeat_all, all_accepted}
 
 -- ---- one record
@@ -22,10 +22,10 @@ TypedIf (some c) = TypedCall c
 pub record_typed : (r : LogRecord) → RecordFits r → TypedIf (call_of r)
 unfolding call_of
 record_typed (opened_by tx) f = tt
-record_typed (committedBy tx) f = tt
-record_typed (abortedBy tx) f = tt
-record_typed (insertedBy tx t k bs) f = (f.0.key, f.1.bytes)
-record_typed (replacedBy tx t k bs) f = (f.0.key, f.1.bytes)
+record_typed (committed_by tx) f = tt
+record_typed (aborted_by tx) f = tt
+record_typed (inserted_by tx t k bs) f = (f.0.key, f.1.bytes)
+record_typed (replaced_by tx t k bs) f = (f.0.key, f.1.bytes)
 record_typed (deleted_by tx t k) f = (f.key, tt)
 record_typed (mark_of l txs) f = tt
 

@@ -18,7 +18,7 @@ use Rattle.model.specs.Calls.{Call, begins, steps, runs, call, after_calls}
 use Rattle.model.specs.Recover.{memory_for, put_block, image_after, fresh_store, made_image}
 use Rattle.model.specs.Cases.{opens, inserts, replaces, deletes, commits, reads, lists, tuple_numbers, writes}
 use Rattle.model.specs.CheckedCases.{checks, weekdays, checked_cases}
-use Rattle.log_records.specs.Records.{LogRecord, opened_by, committedBy, abortedBy, insertedBy, replacedBy, deleted_by, mark_of, encode_records, read_log, end_of}
+use Rattle.log_records.specs.Records.{LogRecord, opened_by, committed_by, aborted_by, inserted_by, replaced_by, deleted_by, mark_of, encode_records, read_log, end_of}
 use Rattle.log_records.specs.Cases.{log_cases}
 use Rattle.log_model.specs.Repeats.{call_of, call_if, repeat, repeat_all, all_accepted}
 use Rattle.log_model.specs.Logged.{record_of, unwritten, mark_for, record_for, LoggedOutcome, unlogged, appending, logging, logging_if, logged_call}
@@ -240,11 +240,11 @@ pub record FirstLife : Type 0 where
   -- wherever they are cut, a roll-forward restores
   pub cuts_1 : life_restores calls1 life1 ≡ true
   -- the roll-forward after the cut in 3's commit aborts 3, whose commit has no whole record, and 6
-  pub aborts_1 : aborts_in (rolled 8 left1) ≡ some (abortedBy 3 ∷ abortedBy 6 ∷ [])
+  pub aborts_1 : aborts_in (rolled 8 left1) ≡ some (aborted_by 3 ∷ aborted_by 6 ∷ [])
   -- wherever it is cut, the next one restores
   pub cuts_forward_1 : forward_restores left1 ≡ true
   -- after the cut between the two aborts the next one aborts 6 alone
-  pub aborts_2 : aborts_in (rolled 8 left2) ≡ some (abortedBy 6 ∷ [])
+  pub aborts_2 : aborts_in (rolled 8 left2) ≡ some (aborted_by 6 ∷ [])
   -- wherever that is cut, the next one restores
   pub cuts_forward_2 : forward_restores left2 ≡ true
   -- its stores leave the log that the second life starts with
@@ -262,13 +262,13 @@ pub record SecondLife : Type 0 where
   pub cuts_2 : life_restores calls2 life2 ≡ true
   -- the whole records then: those of both lives in order, with two marks of level 2 and the aborts of the roll-forwards
   pub records_3 : read_log left3.1
-      ≡ some (opened_by 5 ∷ insertedBy 5 0 7 (0x41 ∷ 0x42 ∷ []) ∷ committedBy 5 ∷ opened_by 6 ∷ insertedBy 6 1 9 (0x43 ∷ []) ∷ opened_by 4
-      ∷ mark_of 1 (4 ∷ []) ∷ insertedBy 4 0 8 (0x44 ∷ []) ∷ replacedBy 6 1 9 (0x45 ∷ []) ∷ committedBy 4
-      ∷ opened_by 3 ∷ insertedBy 3 0 5 (0x46 ∷ []) ∷ mark_of 2 [] ∷ abortedBy 3 ∷ abortedBy 6
-      ∷ opened_by 5 ∷ insertedBy 5 0 360 (0 ∷ 30 ∷ []) ∷ committedBy 5 ∷ opened_by 7
-      ∷ mark_of 2 (7 ∷ []) ∷ insertedBy 7 3 1 [] ∷ committedBy 7 ∷ opened_by 8 ∷ deleted_by 8 0 8 ∷ [])
+      ≡ some (opened_by 5 ∷ inserted_by 5 0 7 (0x41 ∷ 0x42 ∷ []) ∷ committed_by 5 ∷ opened_by 6 ∷ inserted_by 6 1 9 (0x43 ∷ []) ∷ opened_by 4
+      ∷ mark_of 1 (4 ∷ []) ∷ inserted_by 4 0 8 (0x44 ∷ []) ∷ replaced_by 6 1 9 (0x45 ∷ []) ∷ committed_by 4
+      ∷ opened_by 3 ∷ inserted_by 3 0 5 (0x46 ∷ []) ∷ mark_of 2 [] ∷ aborted_by 3 ∷ aborted_by 6
+      ∷ opened_by 5 ∷ inserted_by 5 0 360 (0 ∷ 30 ∷ []) ∷ committed_by 5 ∷ opened_by 7
+      ∷ mark_of 2 (7 ∷ []) ∷ inserted_by 7 3 1 [] ∷ committed_by 7 ∷ opened_by 8 ∷ deleted_by 8 0 8 ∷ [])
   -- the roll-forward aborts 8
-  pub aborts_3 : aborts_in (rolled 8 left3) ≡ some (abortedBy 8 ∷ [])
+  pub aborts_3 : aborts_in (rolled 8 left3) ≡ some (aborted_by 8 ∷ [])
   -- wherever it is cut, the next one restores
   pub cuts_forward_3 : forward_restores left3 ≡ true
   -- its stores leave the log that the third life starts with
@@ -306,7 +306,7 @@ log_in (holds f) = f.log
 
 -- two marks of level 1, the second with 6 and 7, and a commit of 6
 unfoldable pub two_marks : List LogRecord
-two_marks = mark_of 1 (5 ∷ []) ∷ mark_of 1 (6 ∷ 7 ∷ []) ∷ committedBy 6 ∷ []
+two_marks = mark_of 1 (5 ∷ []) ∷ mark_of 1 (6 ∷ 7 ∷ []) ∷ committed_by 6 ∷ []
 
 -- the refusals in order, and what is repeated, aborted and zeroed
 pub record ForwardCases : Type 0 where
@@ -322,7 +322,7 @@ pub record ForwardCases : Type 0 where
   -- at level 0 no mark is asked for
   pub none_needed : refusal level0 (zeros 4) ≡ 0
   -- a repeated call that is refused is 31, though the abort of 5 does not fit either
-  pub repeated : refusal level0 (encode_records (opened_by 5 ∷ committedBy 6 ∷ [])) ≡ 31
+  pub repeated : refusal level0 (encode_records (opened_by 5 ∷ committed_by 6 ∷ [])) ≡ 31
   -- so is an open of the mark that is refused
   pub opened_twice : refusal level1 (encode_records (mark_of 1 (5 ∷ 5 ∷ []) ∷ [])) ≡ 31
   -- an abort that does not fit is 29: no byte left, one, two
@@ -330,11 +330,11 @@ pub record ForwardCases : Type 0 where
   -- a log of 0 bytes is one without records
   pub no_log : refusal level0 [] ∷ refusal level1 [] ∷ [] ≡ 0 ∷ 30 ∷ []
   -- the last mark of a level is taken, and its transactions are opened
-  pub last_mark : to_repeat 1 two_marks ≡ some (opened_by 6 ∷ opened_by 7 ∷ committedBy 6 ∷ [])
+  pub last_mark : to_repeat 1 two_marks ≡ some (opened_by 6 ∷ opened_by 7 ∷ committed_by 6 ∷ [])
   -- with the first alone the commit of 6 is refused
-  pub first_alone : refusal level1 (encode_records (mark_of 1 (5 ∷ []) ∷ committedBy 6 ∷ []) ++ zeros 4) ≡ 31
+  pub first_alone : refusal level1 (encode_records (mark_of 1 (5 ∷ []) ∷ committed_by 6 ∷ []) ++ zeros 4) ≡ 31
   -- with the second it is repeated, and 7 is left open and aborted
-  pub second_taken : aborts_in (rolled 1 (level1, encode_records two_marks ++ zeros 4)) ≡ some (abortedBy 7 ∷ [])
+  pub second_taken : aborts_in (rolled 1 (level1, encode_records two_marks ++ zeros 4)) ≡ some (aborted_by 7 ∷ [])
   -- at level 0 all records are repeated
   pub all_repeated : to_repeat 0 two_marks ≡ some two_marks
   -- and marks open nobody there, so that the commit of 6 is refused

@@ -7,19 +7,19 @@ use Rattle.model.specs.State.{Active, Store, Outcome, refused}
 use Rattle.model.specs.Transactions.{gives, open_numbers}
 use Rattle.model.specs.Calls.{TransactionCall, opens, inserts, inserts_checked, replaces, deletes, commits, aborts, reads, lists, crossings, Call, transacts, begins, steps, runs, call}
 use Rattle.model.specs.Calls.{accepted}
-use Rattle.log_records.specs.Records.{LogRecord, opened_by, committedBy, abortedBy, insertedBy, replacedBy, deleted_by, mark_of, log_size, encode_record}
+use Rattle.log_records.specs.Records.{LogRecord, opened_by, committed_by, aborted_by, inserted_by, replaced_by, deleted_by, mark_of, log_size, encode_record}
 
 -- ---- the record of a call
 
 -- of a call of transactions; those that only answer have none
 unfoldable pub record_of : TransactionCall → Option LogRecord
 record_of (opens tx) = some (opened_by tx)
-record_of (inserts tx t k bs) = some (insertedBy tx t k bs)
-record_of (inserts_checked tx t k bs hours) = some (insertedBy tx t k bs)
-record_of (replaces tx t k bs) = some (replacedBy tx t k bs)
+record_of (inserts tx t k bs) = some (inserted_by tx t k bs)
+record_of (inserts_checked tx t k bs hours) = some (inserted_by tx t k bs)
+record_of (replaces tx t k bs) = some (replaced_by tx t k bs)
 record_of (deletes tx t k) = some (deleted_by tx t k)
-record_of (commits tx) = some (committedBy tx)
-record_of (aborts tx) = some (abortedBy tx)
+record_of (commits tx) = some (committed_by tx)
+record_of (aborts tx) = some (aborted_by tx)
 record_of (reads tx t k room) = none
 record_of (lists room) = none
 record_of (crossings tx t first end room) = none

@@ -4,16 +4,16 @@ use Rattle.std.proofs.Math.Option.{Option, none, some}
 use Rattle.model.specs.State.{Store, Outcome, done}
 use Rattle.model.specs.Transactions.{gives}
 use Rattle.model.specs.Calls.{TransactionCall, opens, inserts, replaces, deletes, commits, aborts, transact, accepted}
-use Rattle.log_records.specs.Records.{LogRecord, opened_by, committedBy, abortedBy, insertedBy, replacedBy, deleted_by, mark_of}
+use Rattle.log_records.specs.Records.{LogRecord, opened_by, committed_by, aborted_by, inserted_by, replaced_by, deleted_by, mark_of}
 
 -- the call that a record says; a mark is none
 unfoldable pub call_of : LogRecord → Option TransactionCall
 call_of (opened_by tx) = some (opens tx)
-call_of (insertedBy tx t k bs) = some (inserts tx t k bs)
-call_of (replacedBy tx t k bs) = some (replaces tx t k bs)
+call_of (inserted_by tx t k bs) = some (inserts tx t k bs)
+call_of (replaced_by tx t k bs) = some (replaces tx t k bs)
 call_of (deleted_by tx t k) = some (deletes tx t k)
-call_of (committedBy tx) = some (commits tx)
-call_of (abortedBy tx) = some (aborts tx)
+call_of (committed_by tx) = some (commits tx)
+call_of (aborted_by tx) = some (aborts tx)
 call_of (mark_of l txs) = none
 
 -- that call on a store; without one nothing changes

@@ -8,7 +8,7 @@ use Rattle.image.specs.Stages.{Stage, refuses, holds}
 use Rattle.model.specs.State.{Store}
 use Rattle.model.specs.Transactions.{open_numbers}
 use Rattle.model.specs.Recover.{recover}
-use Rattle.log_records.specs.Records.{LogRecord, opened_by, committedBy, abortedBy, insertedBy, replacedBy, deleted_by, mark_of, encode_records, read_log, end_of, from_mark}
+use Rattle.log_records.specs.Records.{LogRecord, opened_by, committed_by, aborted_by, inserted_by, replaced_by, deleted_by, mark_of, encode_records, read_log, end_of, from_mark}
 use Rattle.log_model.specs.Repeats.{repeat_all, all_accepted}
 
 -- ---- what is repeated
@@ -16,10 +16,10 @@ use Rattle.log_model.specs.Repeats.{repeat_all, all_accepted}
 -- the opens of the transactions that a mark carries
 unfoldable pub opens_of : LogRecord → List LogRecord
 opens_of (opened_by tx) = []
-opens_of (committedBy tx) = []
-opens_of (abortedBy tx) = []
-opens_of (insertedBy tx t k bs) = []
-opens_of (replacedBy tx t k bs) = []
+opens_of (committed_by tx) = []
+opens_of (aborted_by tx) = []
+opens_of (inserted_by tx t k bs) = []
+opens_of (replaced_by tx t k bs) = []
 opens_of (deleted_by tx t k) = []
 opens_of (mark_of l txs) = map opened_by txs
 
@@ -38,7 +38,7 @@ to_repeat (suc l) rs = behind_mark (from_mark (suc l) rs)
 
 -- the aborts of what is open, by rising number
 unfoldable pub aborts_of : Store → List LogRecord
-aborts_of s = map abortedBy (sorted (open_numbers s.active))
+aborts_of s = map aborted_by (sorted (open_numbers s.active))
 
 -- the log, zeroed from e on
 unfoldable pub zeroed_from : ℕ → List ℕ → List ℕ

@@ -12,7 +12,7 @@ use Rattle.block_forms.specs.Spell.{spell}
 use Rattle.block_forms.proofs.Spelled.{bytes_at, length_spell, spell_bits, bits_bytes, bytes_of_bits}
 use Rattle.block_forms.proofs.Tuples.{be4_bytes}
 use Rattle.block_forms.proofs.Bitwise.{be4_bits, payload_bits}
-use Rattle.log_records.specs.Records.{LogRecord, opened_by, committedBy, abortedBy, insertedBy, replacedBy, deleted_by, mark_of, RecordFits, PlaceFits, PayloadFits}
+use Rattle.log_records.specs.Records.{LogRecord, opened_by, committed_by, aborted_by, inserted_by, replaced_by, deleted_by, mark_of, RecordFits, PlaceFits, PayloadFits}
 use Rattle.log_records.specs.Records.{short_fields, tuple_fields, delete_fields, mark_fields, log_fields, encode_record}
 use Rattle.log_records.specs.Bytes.{short_bytes, place_bytes, mark_bytes, last_fields, entry_bytes}
 use Rattle.log_records.proofs.Spelling.{total_last, bytes_encoded, bits_encoded}
@@ -123,31 +123,31 @@ mark_bytes_lem l txs h =
 -- a record's kind
 abbrev pub kind_of : LogRecord → ℕ
 kind_of (opened_by tx) = 1
-kind_of (insertedBy tx t k bs) = 2
-kind_of (replacedBy tx t k bs) = 3
+kind_of (inserted_by tx t k bs) = 2
+kind_of (replaced_by tx t k bs) = 3
 kind_of (deleted_by tx t k) = 4
-kind_of (committedBy tx) = 5
-kind_of (abortedBy tx) = 6
+kind_of (committed_by tx) = 5
+kind_of (aborted_by tx) = 6
 kind_of (mark_of l txs) = 7
 
 -- the kind stands in the first byte
 pub kind_first : (r : LogRecord) → RecordFits r → (rest : List ℕ) → get_or (encode_record r ++ rest) 0 0 / 16 ≡ kind_of r
 unfolding log_fields
 kind_first (opened_by tx) f rest = rw (short_bytes_lem (opened_by tx) 1 tx refl (omega arith) f) (omega arith)
-kind_first (insertedBy tx t k bs) f rest =
-    rw (tuple_bytes (insertedBy tx t k bs) 2 tx t k bs refl (omega arith) f.0 f.1) (omega (arith, f.0.transaction))
-kind_first (replacedBy tx t k bs) f rest =
-    rw (tuple_bytes (replacedBy tx t k bs) 3 tx t k bs refl (omega arith) f.0 f.1) (omega (arith, f.0.transaction))
+kind_first (inserted_by tx t k bs) f rest =
+    rw (tuple_bytes (inserted_by tx t k bs) 2 tx t k bs refl (omega arith) f.0 f.1) (omega (arith, f.0.transaction))
+kind_first (replaced_by tx t k bs) f rest =
+    rw (tuple_bytes (replaced_by tx t k bs) 3 tx t k bs refl (omega arith) f.0 f.1) (omega (arith, f.0.transaction))
 kind_first (deleted_by tx t k) f rest = rw (delete_bytes tx t k f) (omega (arith, f.transaction))
-kind_first (committedBy tx) f rest = rw (short_bytes_lem (committedBy tx) 5 tx refl (omega arith) f) (omega arith)
-kind_first (abortedBy tx) f rest = rw (short_bytes_lem (abortedBy tx) 6 tx refl (omega arith) f) (omega arith)
+kind_first (committed_by tx) f rest = rw (short_bytes_lem (committed_by tx) 5 tx refl (omega arith) f) (omega arith)
+kind_first (aborted_by tx) f rest = rw (short_bytes_lem (aborted_by tx) 6 tx refl (omega arith) f) (omega arith)
 kind_first (mark_of l txs) f rest = let h : length txs < 128 = omega (arith, f.count) in rw (mark_bytes_lem l txs h) (omega arith)
 
 pub kind_pos : (r : LogRecord) → 0 < kind_of r
 kind_pos (opened_by tx) = omega arith
-kind_pos (insertedBy tx t k bs) = omega arith
-kind_pos (replacedBy tx t k bs) = omega arith
+kind_pos (inserted_by tx t k bs) = omega arith
+kind_pos (replaced_by tx t k bs) = omega arith
 kind_pos (deleted_by tx t k) = omega arith
-kind_pos (committedBy tx) = omega arith
-kind_pos (abortedBy tx) = omega arith
+kind_pos (committed_by tx) = omega arith
+kind_pos (aborted_by tx) = omega arith
 kind_pos (mark_of l txs) = omega arith

@@ -1,6 +1,6 @@
 -- The record of each change: what its part of the log must be, and its bytes.
 use Rattle.basics.proofs.Kit.{◌≡◌, refl, List, ◌++◌, ℕ, ◌<◌, length, arith}
-use Rattle.log_records.specs.Records.{insertedBy, replacedBy, opened_by, committedBy, abortedBy, RecordFits, log_fields, encode_record}
+use Rattle.log_records.specs.Records.{inserted_by, replaced_by, opened_by, committed_by, aborted_by, RecordFits, log_fields, encode_record}
 use Rattle.log_records.specs.Bytes.{short_bytes, place_bytes}
 use Rattle.log_records.specs.Entries.{change_is, entry_as, Small, change_size, ChangePart, ShortPart, TuplePart}
 use Rattle.log_records.specs.declared.Change.{Change}
@@ -25,14 +25,14 @@ module _ {part bs : List ℕ} {tx : ℕ} where
   unfolding change_is change_size log_fields
   commit_part p = record {
     asked = record { kind = omega arith; transaction = p.fits; size = omega (arith, p.size) };
-    bytes = short_bytes_lem (committedBy tx) 5 tx refl (omega arith) p.fits;
+    bytes = short_bytes_lem (committed_by tx) 5 tx refl (omega arith) p.fits;
   }
 
   pub abort_part : ChangePart part (Abort tx) bs → Written (Abort tx) bs (short_bytes 6 tx) (ShortPart part 6 tx)
   unfolding change_is change_size log_fields
   abort_part p = record {
     asked = record { kind = omega arith; transaction = p.fits; size = omega (arith, p.size) };
-    bytes = short_bytes_lem (abortedBy tx) 6 tx refl (omega arith) p.fits;
+    bytes = short_bytes_lem (aborted_by tx) 6 tx refl (omega arith) p.fits;
   }
 
 module _ {part bs : List ℕ} {tx t k n : ℕ} where
@@ -48,7 +48,7 @@ module _ {part bs : List ℕ} {tx t k n : ℕ} where
           limit = p.fits.1.limit;
           size = omega (arith, p.size);
         };
-        bytes = tuple_bytes (insertedBy tx t k bs) 2 tx t k bs refl (omega arith) p.fits.0 p.fits.1;
+        bytes = tuple_bytes (inserted_by tx t k bs) 2 tx t k bs refl (omega arith) p.fits.0 p.fits.1;
       }
 
   pub replace_part : ChangePart part (Replace tx t k n) bs
@@ -63,7 +63,7 @@ module _ {part bs : List ℕ} {tx t k n : ℕ} where
           limit = p.fits.1.limit;
           size = omega (arith, p.size);
         };
-        bytes = tuple_bytes (replacedBy tx t k bs) 3 tx t k bs refl (omega arith) p.fits.0 p.fits.1;
+        bytes = tuple_bytes (replaced_by tx t k bs) 3 tx t k bs refl (omega arith) p.fits.0 p.fits.1;
       }
 
 module _ {part bs : List ℕ} {tx t k : ℕ} where

@@ -12,7 +12,7 @@ use Rattle.block_forms.specs.Limits.{payload_limit, transaction_limit}
 use Rattle.block_forms.specs.Numbers.{be4, num4}
 use Rattle.block_forms.specs.Tuple.{Byte, AllBytes}
 use Rattle.block_forms.proofs.Spelled.{bytes_at}
-use Rattle.log_records.specs.Records.{LogRecord, opened_by, committedBy, abortedBy, insertedBy, replacedBy, deleted_by, mark_of, RecordFits, PlaceFits, PayloadFits}
+use Rattle.log_records.specs.Records.{LogRecord, opened_by, committed_by, aborted_by, inserted_by, replaced_by, deleted_by, mark_of, RecordFits, PlaceFits, PayloadFits}
 use Rattle.log_records.specs.Records.{short_fields, tuple_fields, log_fields, log_size, encode_record, decode_record, ended}
 use Rattle.log_records.specs.Laws.{Read}
 use Rattle.log_records.specs.Bytes.{place_bytes, transaction_of, length_of}
@@ -69,11 +69,11 @@ module _ (xs : List ℕ) (b : AllBytes xs) where
 
   pub commit_some : {tx : ℕ} → get_or xs 0 0 / 16 ≡ 5 → 2 ≤ length xs → tx ≡ transaction_of xs → entry_of (decode_record xs) ≡ Call (Commit tx)
   unfolding log_fields entry_as
-  commit_some k h e = rw e (short_some 5 (committedBy (transaction_of xs)) transaction_fits refl (omega arith) k h)
+  commit_some k h e = rw e (short_some 5 (committed_by (transaction_of xs)) transaction_fits refl (omega arith) k h)
 
   pub abort_some : {tx : ℕ} → get_or xs 0 0 / 16 ≡ 6 → 2 ≤ length xs → tx ≡ transaction_of xs → entry_of (decode_record xs) ≡ Call (Abort tx)
   unfolding log_fields entry_as
-  abort_some k h e = rw e (short_some 6 (abortedBy (transaction_of xs)) transaction_fits refl (omega arith) k h)
+  abort_some k h e = rw e (short_some 6 (aborted_by (transaction_of xs)) transaction_fits refl (omega arith) k h)
 
 -- ---- insert, replace, delete
 
@@ -106,23 +106,23 @@ place_front_lem xs n tx t k bs rest h e =
 tuple_front : (xs : List ℕ) (r : LogRecord) → Read xs r → 2 ≤ kind_of r → kind_of r ≤ 3 → PlaceFront xs
 unfolding log_fields
 tuple_front xs (opened_by tx) d l m = absurd (omega arith)
-tuple_front xs (committedBy tx) d l m = absurd (omega arith)
-tuple_front xs (abortedBy tx) d l m = absurd (omega arith)
-tuple_front xs (insertedBy tx t k bs) d l m =
-    let e = tuple_bytes (insertedBy tx t k bs) 2 tx t k bs refl (omega arith) d.fits.0 d.fits.1 in
+tuple_front xs (committed_by tx) d l m = absurd (omega arith)
+tuple_front xs (aborted_by tx) d l m = absurd (omega arith)
+tuple_front xs (inserted_by tx t k bs) d l m =
+    let e = tuple_bytes (inserted_by tx t k bs) 2 tx t k bs refl (omega arith) d.fits.0 d.fits.1 in
     (place_front_lem xs 2 tx t k bs d.rest d.fits.1.limit (d.is ∙ ap (λ z. z ++ d.rest) e)).0
-tuple_front xs (replacedBy tx t k bs) d l m =
-    let e = tuple_bytes (replacedBy tx t k bs) 3 tx t k bs refl (omega arith) d.fits.0 d.fits.1 in
+tuple_front xs (replaced_by tx t k bs) d l m =
+    let e = tuple_bytes (replaced_by tx t k bs) 3 tx t k bs refl (omega arith) d.fits.0 d.fits.1 in
     (place_front_lem xs 3 tx t k bs d.rest d.fits.1.limit (d.is ∙ ap (λ z. z ++ d.rest) e)).0
 tuple_front xs (deleted_by tx t k) d l m = absurd (omega arith)
 tuple_front xs (mark_of l txs) d a m = absurd (omega arith)
 
 delete_front : (xs : List ℕ) (r : LogRecord) → Read xs r → kind_of r ≡ 4 → PlaceFront xs × (length_of xs ≡ 0)
 delete_front xs (opened_by tx) d k = absurd (omega arith)
-delete_front xs (committedBy tx) d k = absurd (omega arith)
-delete_front xs (abortedBy tx) d k = absurd (omega arith)
-delete_front xs (insertedBy tx t k bs) d q = absurd (omega arith)
-delete_front xs (replacedBy tx t k bs) d q = absurd (omega arith)
+delete_front xs (committed_by tx) d k = absurd (omega arith)
+delete_front xs (aborted_by tx) d k = absurd (omega arith)
+delete_front xs (inserted_by tx t k bs) d q = absurd (omega arith)
+delete_front xs (replaced_by tx t k bs) d q = absurd (omega arith)
 delete_front xs (deleted_by tx t k) d q =
     let e = delete_bytes tx t k d.fits ∙ sym (append-nil (place_bytes 4 tx t 0 k)) in
     place_front_lem xs 4 tx t k [] d.rest (omega arith) (d.is ∙ ap (λ z. z ++ d.rest) e)
@@ -176,14 +176,14 @@ module _ (xs : List ℕ) (b : AllBytes xs) (f : PlaceFront xs) where
       → entry_of (decode_record xs) ≡ Call (Insert tx t k n)
   unfolding log_fields entry_as
   insert_some h a b c d =
-      let r = insertedBy (transaction_of xs) (get_or xs 2 0 / 32) (num4 xs 4) payload_of in
+      let r = inserted_by (transaction_of xs) (get_or xs 2 0 / 32) (num4 xs 4) payload_of in
       rw (a, b, c, d, ← payload_length) (read_some xs r (drop (length_of xs) (drop 8 xs)) (place_fits, payload_fits) (tuple_spelled 2 r refl (omega arith) h))
 
   pub replace_some : {tx t k n : ℕ} → get_or xs 0 0 / 16 ≡ 3 → tx ≡ transaction_of xs → t ≡ get_or xs 2 0 / 32 → k ≡ num4 xs 4 → n ≡ length_of xs
       → entry_of (decode_record xs) ≡ Call (Replace tx t k n)
   unfolding log_fields entry_as
   replace_some h a b c d =
-      let r = replacedBy (transaction_of xs) (get_or xs 2 0 / 32) (num4 xs 4) payload_of in
+      let r = replaced_by (transaction_of xs) (get_or xs 2 0 / 32) (num4 xs 4) payload_of in
       rw (a, b, c, d, ← payload_length) (read_some xs r (drop (length_of xs) (drop 8 xs)) (place_fits, payload_fits) (tuple_spelled 3 r refl (omega arith) h))
 
   pub delete_some : {tx t k : ℕ} → get_or xs 0 0 / 16 ≡ 4 → length_of xs ≡ 0 → tx ≡ transaction_of xs → t ≡ get_or xs 2 0 / 32 → k ≡ num4 xs 4
@@ -203,11 +203,11 @@ five_six k l m = ⊎_elim (λ (h : k < 6). inl (omega arith)) (λ (h : 6 ≤ k).
 
 kind_most : (r : LogRecord) → kind_of r ≤ 7
 kind_most (opened_by tx) = omega arith
-kind_most (insertedBy tx t k bs) = omega arith
-kind_most (replacedBy tx t k bs) = omega arith
+kind_most (inserted_by tx t k bs) = omega arith
+kind_most (replaced_by tx t k bs) = omega arith
 kind_most (deleted_by tx t k) = omega arith
-kind_most (committedBy tx) = omega arith
-kind_most (abortedBy tx) = omega arith
+kind_most (committed_by tx) = omega arith
+kind_most (aborted_by tx) = omega arith
 kind_most (mark_of l txs) = omega arith
 
 -- no record has another kind

@@ -15,7 +15,7 @@ use Rattle.block_forms.specs.Decode.{kind, read_entries}
 use Rattle.block_forms.proofs.Same.{same_eq, same_refl}
 use Rattle.block_forms.proofs.Laws.{values_entries, fit_entries, entries_all, entries_fit}
 use Rattle.image_rows.specs.Rows.{open_limit}
-use Rattle.log_records.specs.Records.{LogRecord, opened_by, committedBy, abortedBy, insertedBy, replacedBy, deleted_by, mark_of, RecordFits, PlaceFits, PayloadFits, MarkFits}
+use Rattle.log_records.specs.Records.{LogRecord, opened_by, committed_by, aborted_by, inserted_by, replaced_by, deleted_by, mark_of, RecordFits, PlaceFits, PayloadFits, MarkFits}
 use Rattle.log_records.specs.Records.{short_fields, tuple_fields, delete_fields, mark_fields, log_fields, encode_record}
 use Rattle.log_records.specs.Records.{transaction_in, table_in, key_in, payload_in, fields_read, within_limits, starts_with, record_spelled, decode_record}
 use Rattle.log_records.specs.Laws.{RecordBytes, DecodeOfEncode, Read, EncodeOfDecode}
@@ -73,13 +73,13 @@ mark_entries l txs rest f =
 fields_read_lem : (r : LogRecord) → RecordFits r → (rest : List ℕ) → fields_read (encode_record r ++ rest) ≡ some r
 unfolding fields_read kind transaction_in table_in key_in if◌then◌else◌ log_fields delete_fields
 fields_read_lem (opened_by tx) f rest = let e = short_back (opened_by tx) 1 tx refl (omega arith) f rest in rw (e.0, e.1)
-fields_read_lem (committedBy tx) f rest = let e = short_back (committedBy tx) 5 tx refl (omega arith) f rest in rw (e.0, e.1)
-fields_read_lem (abortedBy tx) f rest = let e = short_back (abortedBy tx) 6 tx refl (omega arith) f rest in rw (e.0, e.1)
-fields_read_lem (insertedBy tx t k bs) f rest =
-    let e = tuple_back (insertedBy tx t k bs) 2 tx t k bs rest refl (omega arith) f.0 f.1 in
+fields_read_lem (committed_by tx) f rest = let e = short_back (committed_by tx) 5 tx refl (omega arith) f rest in rw (e.0, e.1)
+fields_read_lem (aborted_by tx) f rest = let e = short_back (aborted_by tx) 6 tx refl (omega arith) f rest in rw (e.0, e.1)
+fields_read_lem (inserted_by tx t k bs) f rest =
+    let e = tuple_back (inserted_by tx t k bs) 2 tx t k bs rest refl (omega arith) f.0 f.1 in
     rw (e.kind_is, e.transaction_is, e.table_is, e.key_is, e.payload_is)
-fields_read_lem (replacedBy tx t k bs) f rest =
-    let e = tuple_back (replacedBy tx t k bs) 3 tx t k bs rest refl (omega arith) f.0 f.1 in
+fields_read_lem (replaced_by tx t k bs) f rest =
+    let e = tuple_back (replaced_by tx t k bs) 3 tx t k bs rest refl (omega arith) f.0 f.1 in
     rw (e.kind_is, e.transaction_is, e.table_is, e.key_is, e.payload_is)
 fields_read_lem (deleted_by tx t k) f rest =
     let B = bits_in (encode_record (deleted_by tx t k) ++ rest) in
@@ -100,10 +100,10 @@ fields_read_lem (mark_of l txs) f rest =
 within : (r : LogRecord) → RecordFits r → within_limits r ≡ true
 unfolding within_limits
 within (opened_by tx) f = refl
-within (committedBy tx) f = refl
-within (abortedBy tx) f = refl
-within (insertedBy tx t k bs) f = le-leb (length bs) payload_limit f.1.limit
-within (replacedBy tx t k bs) f = le-leb (length bs) payload_limit f.1.limit
+within (committed_by tx) f = refl
+within (aborted_by tx) f = refl
+within (inserted_by tx t k bs) f = le-leb (length bs) payload_limit f.1.limit
+within (replaced_by tx t k bs) f = le-leb (length bs) payload_limit f.1.limit
 within (deleted_by tx t k) f = refl
 within (mark_of l txs) f = le-leb (length txs) open_limit f.count
 

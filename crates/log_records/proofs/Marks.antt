@@ -17,7 +17,7 @@ use Rattle.block_forms.proofs.Spelled.{bytes_at, spell_append, length_spell}
 use Rattle.block_forms.proofs.Entries.{length_entries, spell_entries_snoc}
 use Rattle.block_forms.proofs.Laws.{total_entries, entries_fit, entries_count}
 use Rattle.image_rows.specs.Rows.{open_limit}
-use Rattle.log_records.specs.Records.{LogRecord, opened_by, committedBy, abortedBy, insertedBy, replacedBy, deleted_by, mark_of, MarkFits, mark_fields, log_fields, encode_record}
+use Rattle.log_records.specs.Records.{LogRecord, opened_by, committed_by, aborted_by, inserted_by, replaced_by, deleted_by, mark_of, MarkFits, mark_fields, log_fields, encode_record}
 use Rattle.log_records.specs.Records.{decode_record}
 use Rattle.log_records.specs.Laws.{Read}
 use Rattle.log_records.specs.Bytes.{mark_bytes, last_fields, entry_bytes, count_of}
@@ -93,10 +93,10 @@ pub record MarkFront (xs : List ℕ) : Type 0 where
 mark_front_lem : (xs : List ℕ) (r : LogRecord) → Read xs r → kind_of r ≡ 7 → MarkFront xs
 unfolding log_fields mark_fields be4
 mark_front_lem xs (opened_by tx) d k = absurd (omega arith)
-mark_front_lem xs (committedBy tx) d k = absurd (omega arith)
-mark_front_lem xs (abortedBy tx) d k = absurd (omega arith)
-mark_front_lem xs (insertedBy tx t k bs) d q = absurd (omega arith)
-mark_front_lem xs (replacedBy tx t k bs) d q = absurd (omega arith)
+mark_front_lem xs (committed_by tx) d k = absurd (omega arith)
+mark_front_lem xs (aborted_by tx) d k = absurd (omega arith)
+mark_front_lem xs (inserted_by tx t k bs) d q = absurd (omega arith)
+mark_front_lem xs (replaced_by tx t k bs) d q = absurd (omega arith)
 mark_front_lem xs (deleted_by tx t k) d q = absurd (omega arith)
 mark_front_lem xs (mark_of l txs) d k =
     let n = length txs in

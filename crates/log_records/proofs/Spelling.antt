@@ -8,7 +8,7 @@ use Rattle.block_forms.specs.Spell.{spell}
 use Rattle.block_forms.specs.Block.{payload_fields, entry_fields}
 use Rattle.block_forms.proofs.Spelled.{length_spell, spell_bits, bits_bytes, length_bytes_of, bytes_of_bits, spell_append, get_spelled}
 use Rattle.block_forms.proofs.Laws.{total_entries}
-use Rattle.log_records.specs.Records.{LogRecord, opened_by, committedBy, abortedBy, insertedBy, replacedBy, deleted_by, mark_of}
+use Rattle.log_records.specs.Records.{LogRecord, opened_by, committed_by, aborted_by, inserted_by, replaced_by, deleted_by, mark_of}
 use Rattle.log_records.specs.Records.{short_fields, tuple_fields, delete_fields, mark_fields, log_fields, log_size, encode_record}
 use Rattle.log_records.specs.Bytes.{last_fields}
 use Rattle.log_records.specs.Entries.{change_is, entry_as, change_size, mark_size}
@@ -65,10 +65,10 @@ size_of_change (Abort tx) bs e = refl
 whole : (r : LogRecord) → (total (log_fields r) ≡ 8 * log_size r) × (1 < log_size r)
 unfolding log_fields log_size short_fields delete_fields mark_size
 whole (opened_by tx) = (refl, omega arith)
-whole (committedBy tx) = (refl, omega arith)
-whole (abortedBy tx) = (refl, omega arith)
-whole (insertedBy tx t k bs) = (omega (arith, total_tuple 2 tx t k bs), omega (arith, total_tuple 2 tx t k bs))
-whole (replacedBy tx t k bs) = (omega (arith, total_tuple 3 tx t k bs), omega (arith, total_tuple 3 tx t k bs))
+whole (committed_by tx) = (refl, omega arith)
+whole (aborted_by tx) = (refl, omega arith)
+whole (inserted_by tx t k bs) = (omega (arith, total_tuple 2 tx t k bs), omega (arith, total_tuple 2 tx t k bs))
+whole (replaced_by tx t k bs) = (omega (arith, total_tuple 3 tx t k bs), omega (arith, total_tuple 3 tx t k bs))
 whole (deleted_by tx t k) = (refl, omega arith)
 whole (mark_of l txs) = (omega (arith, total_mark l txs), omega (arith, total_mark l txs))
 

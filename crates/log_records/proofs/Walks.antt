@@ -7,7 +7,7 @@ use Rattle.basics.proofs.Numbers.{lt_or_ge}
 use Rattle.basics.proofs.Facts.{by, by-option, never, lie}
 use Rattle.basics.proofs.Elements.{some_eq, all_drop}
 use Rattle.block_forms.specs.Tuple.{Byte, AllBytes}
-use Rattle.log_records.specs.Records.{LogRecord, opened_by, committedBy, abortedBy, insertedBy, replacedBy, deleted_by, mark_of, RecordFits, short_fields, delete_fields, log_fields, log_size}
+use Rattle.log_records.specs.Records.{LogRecord, opened_by, committed_by, aborted_by, inserted_by, replaced_by, deleted_by, mark_of, RecordFits, short_fields, delete_fields, log_fields, log_size}
 use Rattle.log_records.specs.Records.{decode_record, ended, followed_by, read_log, end_of, is_mark, from_mark}
 use Rattle.log_records.specs.Laws.{Read}
 use Rattle.log_records.specs.Entries.{entry_as, entry_of, entry_in, change_size, SmallEntry, entry_size, log_end, is_end, mark_in, no_place, last_mark}
@@ -26,40 +26,40 @@ use Rattle.log_records.proofs.Fronts.{read_length}
 pub size_of_entry : (r : LogRecord) → entry_size (entry_as r) ≡ log_size r
 unfolding entry_size entry_as change_size log_size log_fields short_fields delete_fields
 size_of_entry (opened_by tx) = refl
-size_of_entry (committedBy tx) = refl
-size_of_entry (abortedBy tx) = refl
-size_of_entry (insertedBy tx t k bs) = sym (tuple_size 2 tx t k bs)
-size_of_entry (replacedBy tx t k bs) = sym (tuple_size 3 tx t k bs)
+size_of_entry (committed_by tx) = refl
+size_of_entry (aborted_by tx) = refl
+size_of_entry (inserted_by tx t k bs) = sym (tuple_size 2 tx t k bs)
+size_of_entry (replaced_by tx t k bs) = sym (tuple_size 3 tx t k bs)
 size_of_entry (deleted_by tx t k) = refl
 size_of_entry (mark_of l txs) = sym (mark_size_lem l txs)
 
 small_record : (r : LogRecord) → RecordFits r → SmallEntry (entry_as r)
 unfolding entry_as
 small_record (opened_by tx) f = tt
-small_record (committedBy tx) f = tt
-small_record (abortedBy tx) f = tt
-small_record (insertedBy tx t k bs) f = omega (arith, f.1.limit)
-small_record (replacedBy tx t k bs) f = omega (arith, f.1.limit)
+small_record (committed_by tx) f = tt
+small_record (aborted_by tx) f = tt
+small_record (inserted_by tx t k bs) f = omega (arith, f.1.limit)
+small_record (replaced_by tx t k bs) f = omega (arith, f.1.limit)
 small_record (deleted_by tx t k) f = tt
 small_record (mark_of l txs) f = omega (arith, f.count)
 
 marks : (l : ℕ) (r : LogRecord) → mark_in l (entry_as r) ≡ is_mark l r
 unfolding mark_in entry_as is_mark
 marks l (opened_by tx) = refl
-marks l (committedBy tx) = refl
-marks l (abortedBy tx) = refl
-marks l (insertedBy tx t k bs) = refl
-marks l (replacedBy tx t k bs) = refl
+marks l (committed_by tx) = refl
+marks l (aborted_by tx) = refl
+marks l (inserted_by tx t k bs) = refl
+marks l (replaced_by tx t k bs) = refl
 marks l (deleted_by tx t k) = refl
 marks l (mark_of m txs) = refl
 
 no_end : (r : LogRecord) → is_end (entry_as r) ≡ false
 unfolding is_end entry_as
 no_end (opened_by tx) = refl
-no_end (committedBy tx) = refl
-no_end (abortedBy tx) = refl
-no_end (insertedBy tx t k bs) = refl
-no_end (replacedBy tx t k bs) = refl
+no_end (committed_by tx) = refl
+no_end (aborted_by tx) = refl
+no_end (inserted_by tx t k bs) = refl
+no_end (replaced_by tx t k bs) = refl
 no_end (deleted_by tx t k) = refl
 no_end (mark_of l txs) = refl
 
@@ -243,10 +243,10 @@ mark_is : (l : ℕ) (r : LogRecord) (rs : List LogRecord) {qs : List LogRecord} 
     → (txs : List ℕ) × (ps : List LogRecord) × (qs ≡ mark_of l txs ∷ ps)
 unfolding is_mark
 mark_is l (opened_by tx) rs t e = lie t
-mark_is l (committedBy tx) rs t e = lie t
-mark_is l (abortedBy tx) rs t e = lie t
-mark_is l (insertedBy tx a k bs) rs t e = lie t
-mark_is l (replacedBy tx a k bs) rs t e = lie t
+mark_is l (committed_by tx) rs t e = lie t
+mark_is l (aborted_by tx) rs t e = lie t
+mark_is l (inserted_by tx a k bs) rs t e = lie t
+mark_is l (replaced_by tx a k bs) rs t e = lie t
 mark_is l (deleted_by tx a k) rs t e = lie t
 mark_is l (mark_of m txs) rs t e = (txs, rs, e ∙ ap (λ n. mark_of n txs ∷ rs) (eqb-true m l t))
 

@@ -7,24 +7,24 @@ use Rattle.block_forms.specs.Numbers.{same}
 use Rattle.block_forms.specs.Spell.{zeros, spell, bytes_of}
 use Rattle.block_forms.specs.Block.{payload_fields, entry_fields}
 use Rattle.block_forms.specs.Decode.{kind, read_entries}
-use Rattle.log_records.specs.Records.{LogRecord, opened_by, committedBy, abortedBy, insertedBy, replacedBy, deleted_by, mark_of}
+use Rattle.log_records.specs.Records.{LogRecord, opened_by, committed_by, aborted_by, inserted_by, replaced_by, deleted_by, mark_of}
 use Rattle.log_records.specs.Records.{short_fields, tuple_fields, delete_fields, mark_fields, log_fields, log_size, encode_record, encode_records}
 use Rattle.log_records.specs.Records.{transaction_in, table_in, key_in, payload_in, fields_read, within_limits, starts_with, record_spelled, decode_record}
 use Rattle.log_records.specs.Records.{ended, followed_by, read_records, read_log, end_of, is_mark, from_mark}
 
 -- a log of four records, with a mark of level 9 among them
 abbrev pub four_records : List LogRecord
-four_records = opened_by 0x123 ∷ mark_of 9 (0x123 ∷ []) ∷ insertedBy 0x123 7 0x01020304 (0xAA ∷ 0xBB ∷ []) ∷ committedBy 0x123 ∷ []
+four_records = opened_by 0x123 ∷ mark_of 9 (0x123 ∷ []) ∷ inserted_by 0x123 7 0x01020304 (0xAA ∷ 0xBB ∷ []) ∷ committed_by 0x123 ∷ []
 
 -- what is read of bytes, and what is spelled by them
 pub record LogCases : Type 0 where
   -- kind and transaction
   pub opened : encode_record (opened_by 0x123) ≡ 0x11 ∷ 0x23 ∷ []
-  pub committed : encode_record (committedBy 0xFFF) ≡ 0x5F ∷ 0xFF ∷ []
-  pub aborted : encode_record (abortedBy 0) ≡ 0x60 ∷ 0x00 ∷ []
+  pub committed : encode_record (committed_by 0xFFF) ≡ 0x5F ∷ 0xFF ∷ []
+  pub aborted : encode_record (aborted_by 0) ≡ 0x60 ∷ 0x00 ∷ []
   -- table and payload length share the third and fourth byte
-  pub inserted : encode_record (insertedBy 1 7 0x01020304 (0xAA ∷ 0xBB ∷ 0xCC ∷ [])) ≡ 0x20 ∷ 0x01 ∷ 0xE1 ∷ 0x80 ∷ 1 ∷ 2 ∷ 3 ∷ 4 ∷ 0xAA ∷ 0xBB ∷ 0xCC ∷ []
-  pub replaced : encode_record (replacedBy 0x100 0 0 []) ≡ 0x31 ∷ 0 ∷ 0 ∷ 0 ∷ 0 ∷ 0 ∷ 0 ∷ 0 ∷ []
+  pub inserted : encode_record (inserted_by 1 7 0x01020304 (0xAA ∷ 0xBB ∷ 0xCC ∷ [])) ≡ 0x20 ∷ 0x01 ∷ 0xE1 ∷ 0x80 ∷ 1 ∷ 2 ∷ 3 ∷ 4 ∷ 0xAA ∷ 0xBB ∷ 0xCC ∷ []
+  pub replaced : encode_record (replaced_by 0x100 0 0 []) ≡ 0x31 ∷ 0 ∷ 0 ∷ 0 ∷ 0 ∷ 0 ∷ 0 ∷ 0 ∷ []
   pub deleted : encode_record (deleted_by 2 5 0xFFFFFFFF) ≡ 0x40 ∷ 0x02 ∷ 0xA0 ∷ 0x00 ∷ 0xFF ∷ 0xFF ∷ 0xFF ∷ 0xFF ∷ []
   -- a count that is even, none, and one that is odd: four zero bits at the end
   pub mark_none : encode_record (mark_of 9 []) ≡ 0x70 ∷ 0x00 ∷ 0 ∷ 0 ∷ 0 ∷ 9 ∷ []

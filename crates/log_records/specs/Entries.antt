@@ -4,7 +4,7 @@ use Rattle.std.proofs.Math.Option.{Option, none, some}
 use Rattle.basics.specs.Basics.{if◌then◌else◌}
 use Rattle.block_forms.specs.Limits.{payload_limit, transaction_limit, most_number}
 use Rattle.image_rows.specs.Rows.{open_limit}
-use Rattle.log_records.specs.Records.{LogRecord, opened_by, committedBy, abortedBy, insertedBy, replacedBy, deleted_by, mark_of, RecordFits, decode_record, ended, end_of, from_mark}
+use Rattle.log_records.specs.Records.{LogRecord, opened_by, committed_by, aborted_by, inserted_by, replaced_by, deleted_by, mark_of, RecordFits, decode_record, ended, end_of, from_mark}
 use Rattle.log_records.specs.declared.Change.{Change}
 use Rattle.log_records.specs.declared.Change.TheVariants.{Open, Insert, Replace, Delete, Commit, Abort}
 use Rattle.log_records.specs.declared.Entry.{Entry}
@@ -17,20 +17,20 @@ use Rattle.log_records.specs.declared.MarkPlace.{MarkPlace}
 -- the record of a change whose payload is bs
 unfoldable pub change_is : Change → List ℕ → LogRecord
 change_is (Open tx) bs = opened_by tx
-change_is (Insert tx t k n) bs = insertedBy tx t k bs
-change_is (Replace tx t k n) bs = replacedBy tx t k bs
+change_is (Insert tx t k n) bs = inserted_by tx t k bs
+change_is (Replace tx t k n) bs = replaced_by tx t k bs
 change_is (Delete tx t k) bs = deleted_by tx t k
-change_is (Commit tx) bs = committedBy tx
-change_is (Abort tx) bs = abortedBy tx
+change_is (Commit tx) bs = committed_by tx
+change_is (Abort tx) bs = aborted_by tx
 
 -- a record as a value of the code: its payload and the transactions of a mark stay in the log
 unfoldable pub entry_as : LogRecord → Entry
 entry_as (opened_by tx) = Call (Open tx)
-entry_as (insertedBy tx t k bs) = Call (Insert tx t k (length bs))
-entry_as (replacedBy tx t k bs) = Call (Replace tx t k (length bs))
+entry_as (inserted_by tx t k bs) = Call (Insert tx t k (length bs))
+entry_as (replaced_by tx t k bs) = Call (Replace tx t k (length bs))
 entry_as (deleted_by tx t k) = Call (Delete tx t k)
-entry_as (committedBy tx) = Call (Commit tx)
-entry_as (abortedBy tx) = Call (Abort tx)
+entry_as (committed_by tx) = Call (Commit tx)
+entry_as (aborted_by tx) = Call (Abort tx)
 entry_as (mark_of l txs) = Mark l (length txs)
 
 -- ---- reading

@@ -17,8 +17,8 @@ use Rattle.image_rows.specs.Rows.{open_limit}
 -- A transaction was opened, committed or aborted; it inserted, replaced or deleted a tuple, of that table, key and payload; or a mark: a checkpoint
 -- of that level began while these transactions were open without writes.
 pub data LogRecord : Type 0 where
-  opened_by committedBy abortedBy : ℕ → LogRecord
-  insertedBy replacedBy : ℕ → ℕ → ℕ → List ℕ → LogRecord
+  opened_by committed_by aborted_by : ℕ → LogRecord
+  inserted_by replaced_by : ℕ → ℕ → ℕ → List ℕ → LogRecord
   deleted_by : ℕ → ℕ → ℕ → LogRecord
   mark_of : ℕ → List ℕ → LogRecord
 
@@ -42,10 +42,10 @@ pub record MarkFits (l : ℕ) (txs : List ℕ) : Type 0 where
 -- every field of a record is in its range
 abbrev pub RecordFits : LogRecord → Type 0
 RecordFits (opened_by tx) = tx < transaction_limit
-RecordFits (committedBy tx) = tx < transaction_limit
-RecordFits (abortedBy tx) = tx < transaction_limit
-RecordFits (insertedBy tx t k bs) = PlaceFits tx t k × PayloadFits bs
-RecordFits (replacedBy tx t k bs) = PlaceFits tx t k × PayloadFits bs
+RecordFits (committed_by tx) = tx < transaction_limit
+RecordFits (aborted_by tx) = tx < transaction_limit
+RecordFits (inserted_by tx t k bs) = PlaceFits tx t k × PayloadFits bs
+RecordFits (replaced_by tx t k bs) = PlaceFits tx t k × PayloadFits bs
 RecordFits (deleted_by tx t k) = PlaceFits tx t k
 RecordFits (mark_of l txs) = MarkFits l txs
 
@@ -70,11 +70,11 @@ mark_fields l txs = (4, 7) ∷ (7, length txs) ∷ (5, 0) ∷ (32, l) ∷ (entry
 -- the fields of a record: the kind is never zero, and so a record's first byte is not either
 unfoldable pub log_fields : LogRecord → List (ℕ × ℕ)
 log_fields (opened_by tx) = short_fields 1 tx
-log_fields (insertedBy tx t k bs) = tuple_fields 2 tx t k bs
-log_fields (replacedBy tx t k bs) = tuple_fields 3 tx t k bs
+log_fields (inserted_by tx t k bs) = tuple_fields 2 tx t k bs
+log_fields (replaced_by tx t k bs) = tuple_fields 3 tx t k bs
 log_fields (deleted_by tx t k) = delete_fields tx t k
-log_fields (committedBy tx) = short_fields 5 tx
-log_fields (abortedBy tx) = short_fields 6 tx
+log_fields (committed_by tx) = short_fields 5 tx
+log_fields (aborted_by tx) = short_fields 6 tx
 log_fields (mark_of l txs) = mark_fields l txs
 
 -- how many bytes a record takes
@@ -112,21 +112,21 @@ payload_in xs = take (field (bits_in xs) 19 6) (drop 8 xs)
 unfoldable pub fields_read : List ℕ → Option LogRecord
 fields_read xs =
     if eqb (kind xs) 1 then some (opened_by (transaction_in xs))
-    else if eqb (kind xs) 2 then some (insertedBy (transaction_in xs) (table_in xs) (key_in xs) (payload_in xs))
-    else if eqb (kind xs) 3 then some (replacedBy (transaction_in xs) (table_in xs) (key_in xs) (payload_in xs))
+    else if eqb (kind xs) 2 then some (inserted_by (transaction_in xs) (table_in xs) (key_in xs) (payload_in xs))
+    else if eqb (kind xs) 3 then some (replaced_by (transaction_in xs) (table_in xs) (key_in xs) (payload_in xs))
     else if eqb (kind xs) 4 then some (deleted_by (transaction_in xs) (table_in xs) (key_in xs))
-    else if eqb (kind xs) 5 then some (committedBy (transaction_in xs))
-    else if eqb (kind xs) 6 then some (abortedBy (transaction_in xs))
+    else if eqb (kind xs) 5 then some (committed_by (transaction_in xs))
+    else if eqb (kind xs) 6 then some (aborted_by (transaction_in xs))
     else if eqb (kind xs) 7 then some (mark_of (field (bits_in xs) 16 32) (read_entries xs 48 (field (bits_in xs) 4 7)))
     else none
 
 -- a payload and the count of open transactions are within their limits
 unfoldable pub within_limits : LogRecord → Bool
 within_limits (opened_by tx) = true
-within_limits (committedBy tx) = true
-within_limits (abortedBy tx) = true
-within_limits (insertedBy tx t k bs) = leb (length bs) payload_limit
-within_limits (replacedBy tx t k bs) = leb (length bs) payload_limit
+within_limits (committed_by tx) = true
+within_limits (aborted_by tx) = true
+within_limits (inserted_by tx t k bs) = leb (length bs) payload_limit
+within_limits (replaced_by tx t k bs) = leb (length bs) payload_limit
 within_limits (deleted_by tx t k) = true
 within_limits (mark_of l txs) = leb (length txs) open_limit
 
@@ -175,10 +175,10 @@ end_of rs = sum log_size rs
 -- r is a mark of level l
 unfoldable pub is_mark : ℕ → LogRecord → Bool
 is_mark l (opened_by tx) = false
-is_mark l (committedBy tx) = false
-is_mark l (abortedBy tx) = false
-is_mark l (insertedBy tx t k bs) = false
-is_mark l (replacedBy tx t k bs) = false
+is_mark l (committed_by tx) = false
+is_mark l (aborted_by tx) = false
+is_mark l (inserted_by tx t k bs) = false
+is_mark l (replaced_by tx t k bs) = false
 is_mark l (deleted_by tx t k) = false
 is_mark l (mark_of m txs) = eqb m l
 

@@ -11,7 +11,7 @@ use Rattle.model.specs.State.{Held}
 
 -- an operation on the tuple of that number
 pub data Op : Type 0 where
-  toCommit toRemove : ℕ → Op
+  to_commit to_remove : ℕ → Op
 
 -- the row of number n
 unfoldable pub is_row : ℕ → Row → Bool
@@ -20,12 +20,12 @@ is_row n r = eqb (number r) n
 -- all of these are removed, in their order
 unfoldable pub remove_all : List Row → List Op
 remove_all [] = []
-remove_all (r ∷ rs) = toRemove (number r) ∷ remove_all rs
+remove_all (r ∷ rs) = to_remove (number r) ∷ remove_all rs
 
 -- r: the transaction's newest version of a key; vs: every version of it, by rising number. A delete mark removes them all; else the
 -- newest is committed and then the others are removed
 unfoldable pub plan_key : Row → List Row → List Op
-plan_key r vs = if r.1.mark then remove_all vs else toCommit (number r) ∷ remove_all (keep (λ y. not (is_row (number r) y)) vs)
+plan_key r vs = if r.1.mark then remove_all vs else to_commit (number r) ∷ remove_all (keep (λ y. not (is_row (number r) y)) vs)
 
 -- the transaction's own version of key k of table t
 unfoldable pub own_at : ℕ → ℕ → ℕ → Row → Bool

@@ -5,10 +5,10 @@ use Rattle.basics.specs.Basics.{if◌then◌else◌}
 use Rattle.basics.proofs.Facts.{by, AllOf}
 use Rattle.model.specs.State.{Page}
 use Rattle.model.specs.Sight.{held}
-use Rattle.model.specs.Places.{PlaceOp, commitPlace, removePlace, carry_out, remove_row, commit_row}
+use Rattle.model.specs.Places.{PlaceOp, commit_place, remove_place, carry_out, remove_row, commit_row}
 use Rattle.model.specs.Transactions.{tagged}
 use Rattle.basics.proofs.Elements.{Pairs, pairs_parts, pairs_append, all_map, eqb_self, eqb-true}
-use Rattle.model.proofs.ByNumber.{Op, toCommit, toRemove, place_in}
+use Rattle.model.proofs.ByNumber.{Op, to_commit, to_remove, place_in}
 use Rattle.model.proofs.Rows.{held_plain, as_row, number_of}
 use Rattle.model.proofs.Places.{numbers, Less, remove_numbers, commit_numbers, remove, commit, perform}
 use Rattle.basics.proofs.Parts.{remove_at_seam}
@@ -18,19 +18,19 @@ use Rattle.basics.specs.Lists.{first_index}
 pub carry_append : (n : ℕ) (a b : List PlaceOp) (ps : List Page) → carry_out n (a ++ b) ps ≡ carry_out n b (carry_out n a ps)
 unfolding carry_out
 carry_append n [] b ps = refl
-carry_append n (commitPlace i ∷ a) b ps = carry_append n a b _
-carry_append n (removePlace i ∷ a) b ps = carry_append n a b _
+carry_append n (commit_place i ∷ a) b ps = carry_append n a b _
+carry_append n (remove_place i ∷ a) b ps = carry_append n a b _
 
 -- the operation by number, where ns are the numbers at entry
 unfoldable pub numbered : List ℕ → PlaceOp → Op
-numbered ns (commitPlace i) = toCommit (get_or ns i 0)
-numbered ns (removePlace i) = toRemove (get_or ns i 0)
+numbered ns (commit_place i) = to_commit (get_or ns i 0)
+numbered ns (remove_place i) = to_remove (get_or ns i 0)
 
 -- places from k to below n; behind a removal only later ones
 abbrev pub Rising : ℕ → ℕ → List PlaceOp → Type 0
 Rising n k [] = Unit {0}
-Rising n k (commitPlace i ∷ os) = (k ≤ i) × (i < n) × Rising n k os
-Rising n k (removePlace i ∷ os) = (k ≤ i) × (i < n) × Rising n (suc i) os
+Rising n k (commit_place i ∷ os) = (k ≤ i) × (i < n) × Rising n k os
+Rising n k (remove_place i ∷ os) = (k ≤ i) × (i < n) × Rising n (suc i) os
 
 -- the numbers now, ms: from place k on they are as at entry
 record Tail (ns : List ℕ) (k : ℕ) (ms : List ℕ) : Type 0 where
@@ -95,14 +95,14 @@ module _ (ns : List ℕ) where
       → carry_out (length ns) os ps ≡ perform (map (numbered ns) os) ps
   unfolding carry_out perform numbered
   carry [] k ps r t d = refl
-  carry (commitPlace i ∷ os) k ps r t d =
+  carry (commit_place i ∷ os) k ps r t d =
       let n = get_or ns i 0 in
       let t' = tail_more ns k i (numbers ps) t r.0 in
       let e : commit_row (i - (length ns - length (held ps))) ps ≡ commit n ps = ap (λ z. commit_row z ps) (now_at i r.1 ps t' d) in
       let same : numbers (commit n ps) ≡ numbers ps = commit_numbers (place_in n (numbers ps)) ps in
       ap (carry_out (length ns) os) e
       ∙ carry os k (commit n ps) r.2 (subst (Tail ns k) (sym same) t) (subst (Pairs (λ a b. a ≢ b)) (sym same) d)
-  carry (removePlace i ∷ os) k ps r t d =
+  carry (remove_place i ∷ os) k ps r t d =
       let n = get_or ns i 0 in
       let t' = tail_more ns k i (numbers ps) t r.0 in
       let e : remove_row (i - (length ns - length (held ps))) ps ≡ remove n ps = ap (λ z. remove_row z ps) (now_at i r.1 ps t' d) in

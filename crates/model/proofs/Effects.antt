@@ -11,7 +11,7 @@ use Rattle.model.specs.Transactions.{write_tests, with_tuple, write_call, replie
 use Rattle.model.specs.Checked.{insert_checked_call}
 use Rattle.model.specs.Crossing.{keys_reply, crossing_call}
 use Rattle.model.specs.Calls.{TransactionCall, opens, inserts, inserts_checked, replaces, deletes, commits, aborts, reads, lists, crossings, transact}
-use Rattle.model.specs.Calls.{no_effect, start_of, writeOf, commitOf, abortOf, effect, TypedTuple, TypedCall, accepted}
+use Rattle.model.specs.Calls.{no_effect, start_of, write_of, commit_of, abort_of, effect, TypedTuple, TypedCall, accepted}
 use Rattle.basics.proofs.Elements.{leb-false, not-false}
 
 -- ---- refused or not
@@ -69,9 +69,9 @@ pub data Does (c : TransactionCall) (s : Store) : Outcome → Type 0 where
   answers : (a : Answer) → effect c ≡ no_effect → accepted a ≡ true → Does c s (gives a s)
   starts : (tx : ℕ) → effect c ≡ start_of tx → tx ≤ most_transaction → is_in tx (open_numbers s.active) ≡ false → length s.active < open_limit
       → Does c s (gives done (with_open tx s))
-  writes : (tx t k : ℕ) (bs : List ℕ) (m : Bool) → effect c ≡ writeOf tx → Accepts c tx t k bs m s → Does c s (with_tuple tx t k bs m s)
-  finishes : (tx : ℕ) → effect c ≡ commitOf tx → Does c s (closing tx (committed_pages tx s.pages) s)
-  undoes : (tx : ℕ) → effect c ≡ abortOf tx → Does c s (closing tx (aborted_pages tx s.pages) s)
+  writes : (tx t k : ℕ) (bs : List ℕ) (m : Bool) → effect c ≡ write_of tx → Accepts c tx t k bs m s → Does c s (with_tuple tx t k bs m s)
+  finishes : (tx : ℕ) → effect c ≡ commit_of tx → Does c s (closing tx (committed_pages tx s.pages) s)
+  undoes : (tx : ℕ) → effect c ≡ abort_of tx → Does c s (closing tx (aborted_pages tx s.pages) s)
 
 -- ---- every call has one
 
@@ -121,7 +121,7 @@ module _ (c : TransactionCall) (s : Store) (tx t k : ℕ) (bs : List ℕ) (typed
         typed = typed;
       }
 
-  writing : (new m : Bool) → effect c ≡ writeOf tx → Marks new m bs → Does c s (write_call new m tx t k bs s)
+  writing : (new m : Bool) → effect c ≡ write_of tx → Marks new m bs → Does c s (write_call new m tx t k bs s)
   unfolding write_call
   writing new m e q = does_unless c s _ _ (λ p. writes tx t k bs m e (shown new m q p))
 

@@ -7,7 +7,7 @@ use Rattle.block_forms.specs.Tuple.{Tuple}
 use Rattle.model.specs.State.{Page, Held}
 use Rattle.model.specs.Rules.{shown, fresh, grown, with_tuples, split_once, place_after, place, entering, place_front, settle, joined, list_of, pend_remove_at}
 use Rattle.model.specs.Rules.{remove_row_on, committed_at, commit_row_on, at_row, remove_row, commit_row, edit_at, pend_commit, remove_now, commit_now}
-use Rattle.model.specs.Transactions.{PlaceOp, commitPlace, removePlace, carry_out}
+use Rattle.model.specs.Transactions.{PlaceOp, commit_place, remove_place, carry_out}
 use Rattle.model.proofs.RuleCases.{after_cases, settle_cases}
 use Rattle.model.proofs.Shown.{after_shown, entering_adding, shown_taken_at, shown_pend_commit}
 
@@ -137,5 +137,5 @@ module _ (R : List Page → List Page → Type 0) (m : Moves R) where
   pub moves_carry : (n : ℕ) (os : List PlaceOp) (ps : List Page) → R ps (carry_out n os ps)
   unfolding carry_out remove_row commit_row list_of
   moves_carry n [] ps = m.same ps
-  moves_carry n (commitPlace i ∷ os) ps = m.chain _ _ _ (moves_row commit_row_on moves_commit_row_on _ none ps) (moves_carry n os _)
-  moves_carry n (removePlace i ∷ os) ps = m.chain _ _ _ (moves_row remove_row_on moves_remove_row_on _ none ps) (moves_carry n os _)
+  moves_carry n (commit_place i ∷ os) ps = m.chain _ _ _ (moves_row commit_row_on moves_commit_row_on _ none ps) (moves_carry n os _)
+  moves_carry n (remove_place i ∷ os) ps = m.chain _ _ _ (moves_row remove_row_on moves_remove_row_on _ none ps) (moves_carry n os _)

@@ -9,7 +9,7 @@ use Rattle.model.specs.Rules.{fresh, list_of, with_tuples, remove_now, pend_remo
 use Rattle.model.specs.Places.{tagged, at_row, edit_at, pend_remove_at, remove_row_on, committed_at, commit_row_on, remove_row, commit_row}
 use Rattle.basics.specs.Lists.{remove_at}
 use Rattle.basics.proofs.Elements.{le_true, lt_false, leb-true, leb-false}
-use Rattle.model.proofs.ByNumber.{place_in, numbers_on, Op, toCommit, toRemove}
+use Rattle.model.proofs.ByNumber.{place_in, numbers_on, Op, to_commit, to_remove}
 use Rattle.model.proofs.Rows.{Entry, with_table, tagged_append, tagged_settle, tagged_page, number_of, edit_entry, Edits, Amends, edit_amends, away, kept_row, removed_edits}
 use Rattle.model.proofs.Rows.{pend_remove_edits, kept_edits, pend_commit_edits, table_append, table_length}
 use Rattle.model.proofs.Sound.{PageOk}
@@ -193,8 +193,8 @@ commit n ps = commit_row (place_in n (numbers ps)) ps
 -- the operations, one after another
 unfoldable pub perform : List Op → List Page → List Page
 perform [] ps = ps
-perform (toCommit n ∷ os) ps = perform os (commit n ps)
-perform (toRemove n ∷ os) ps = perform os (remove n ps)
+perform (to_commit n ∷ os) ps = perform os (commit n ps)
+perform (to_remove n ∷ os) ps = perform os (remove n ps)
 
 edit_here : (g : Held → List Held) (t j : ℕ) (hs : List Held) (es : List Entry) → j < length hs → with_table t (edit_at g j hs) ++ es ≡ edit_entry g j (with_table t hs ++ es)
 unfolding edit_at edit_entry

@@ -7,10 +7,10 @@ use Rattle.basics.proofs.Facts.{by, lie, by-option, AllOf}
 use Rattle.block_forms.specs.Tuple.{Tuple}
 use Rattle.image_rows.specs.Rows.{Row, number, is_own, is_at}
 use Rattle.model.specs.Rules.{is_removing}
-use Rattle.model.specs.Places.{PlaceOp, commitPlace, removePlace, Placed, row_of, placed, continues, runs, live_of, own_placed, remove_places, each_run, plan_newest, plan_run, plan_runs}
+use Rattle.model.specs.Places.{PlaceOp, commit_place, remove_place, Placed, row_of, placed, continues, runs, live_of, own_placed, remove_places, each_run, plan_newest, plan_run, plan_runs}
 use Rattle.basics.proofs.Elements.{Pairs, all_at, Mem, here, there, mem_all, all_map, all_parts, all_keep, kept_mem, any_off, last_off, last_any, last_skip, last_some, last_here, last_mem}
 use Rattle.basics.proofs.Elements.{eqb_self, eqb-true, and_no, and_yes}
-use Rattle.model.proofs.ByNumber.{Op, toCommit, toRemove, remove_all, is_row, plan_key, own_at, plan_rows, plan_skip, plan_take}
+use Rattle.model.proofs.ByNumber.{Op, to_commit, to_remove, remove_all, is_row, plan_key, own_at, plan_rows, plan_skip, plan_take}
 use Rattle.model.proofs.Rows.{Entry, applied_is, number_of}
 use Rattle.model.proofs.RowAfter.{With}
 use Rattle.model.proofs.Carry.{numbered, Rising}
@@ -64,8 +64,8 @@ between_placed i (e ∷ es) =
 module _ (n : ℕ) where
   rising_lower : (j k : ℕ) (os : List PlaceOp) → j ≤ k → Rising n k os → Rising n j os
   rising_lower j k [] h r = tt
-  rising_lower j k (commitPlace i ∷ os) h r = (omega (arith, r.0), r.1, rising_lower j k os h r.2)
-  rising_lower j k (removePlace i ∷ os) h r = (omega (arith, r.0), r.1, r.2)
+  rising_lower j k (commit_place i ∷ os) h r = (omega (arith, r.0), r.1, rising_lower j k os h r.2)
+  rising_lower j k (remove_place i ∷ os) h r = (omega (arith, r.0), r.1, r.2)
 
   pub rising_removes : (k m : ℕ) (vs : List (ℕ × Row)) (os : List PlaceOp) → m ≤ n → Between k m vs → Rising n m os → Rising n k (remove_places vs ++ os)
   unfolding remove_places
@@ -145,7 +145,7 @@ pub numbered_removes : (ns : List ℕ) (vs : List (ℕ × Row)) → AllOf (λ y.
     → map (numbered ns) (remove_places vs) ≡ remove_all (map (λ y. y.1) vs)
 unfolding remove_places remove_all numbered number
 numbered_removes ns [] a = refl
-numbered_removes ns (v ∷ vs) a = ap₂ (λ n os. toRemove n ∷ os) a.0.1 (numbered_removes ns vs a.1)
+numbered_removes ns (v ∷ vs) a = ap₂ (λ n os. to_remove n ∷ os) a.0.1 (numbered_removes ns vs a.1)
 
 pub keep_map : (f : ℕ × Row → Bool) (g : Row → Bool) (vs : List (ℕ × Row)) → AllOf (λ y. f y ≡ g y.1) vs
     → map (λ y. y.1) (keep f vs) ≡ keep g (map (λ y. y.1) vs)
@@ -178,7 +178,7 @@ numbered_newest ns d (some x) vs a f =
     let others = keep (λ y. not (eqb y.0 x.0)) vs in
     let c : AllOf (λ y. Named ns y.0 y.1.1.number) others = all_map _ _ (λ y q. q.1) others (all_keep _ (λ y. not (eqb y.0 x.0)) vs a) in
     by x.1.1.mark (λ m. rw m (numbered_removes ns vs a))
-    (λ m. rw m (ap₂ (λ n os. n ∷ os) (ap toCommit w.1)
+    (λ m. rw m (ap₂ (λ n os. n ∷ os) (ap to_commit w.1)
     (numbered_removes ns (keep (λ y. not (eqb y.0 x.0)) vs) c ∙ ap remove_all (keep_map _ _ vs t))))
 
 module _ (tx : ℕ) (ev : List Row) where

@@ -9,7 +9,7 @@ use Rattle.model.specs.Sight.{rows, held}
 use Rattle.model.specs.Transactions.{tagged}
 use Rattle.basics.proofs.Elements.{Pairs, Mem, here, all_map, there, mem_all, eqb_self, eqb-true, all_keep, kept_mem, all_mem, all_append, mem_keep, any_off, last_off, last_any, last_skip}
 use Rattle.basics.proofs.Elements.{last_some, last_here}
-use Rattle.model.proofs.ByNumber.{Op, toCommit, is_row, toRemove, remove_all, plan_key, own_at, plan_rows, place_in, plan_skip, plan_take}
+use Rattle.model.proofs.ByNumber.{Op, to_commit, is_row, to_remove, remove_all, plan_key, own_at, plan_rows, place_in, plan_skip, plan_take}
 use Rattle.model.proofs.Sound.{PageOk, remove_row_ok, commit_row_ok}
 use Rattle.model.proofs.Rows.{amend, away, kept_row, Alike, Differ, Entry, Sub, plain, live_rows, sub_refl, sub_pairs, sub_trans, pairs_plain}
 use Rattle.model.proofs.Rows.{held_plain, rows_live}
@@ -24,20 +24,20 @@ gather F (r ∷ rs) = F r ++ gather F rs
 -- what becomes of a row
 unfoldable pub row_after : List Op → Row → List Row
 row_after [] r = r ∷ []
-row_after (toCommit n ∷ os) r = if is_row n r then row_after os (r.0, as_committed r.1) else row_after os r
-row_after (toRemove n ∷ os) r = if is_row n r then [] else row_after os r
+row_after (to_commit n ∷ os) r = if is_row n r then row_after os (r.0, as_committed r.1) else row_after os r
+row_after (to_remove n ∷ os) r = if is_row n r then [] else row_after os r
 
 gather_nil : (rs : List Row) → gather (row_after []) rs ≡ rs
 unfolding gather row_after
 gather_nil [] = refl
 gather_nil (r ∷ rs) = ap (λ z. r ∷ z) (gather_nil rs)
 
-gather_removes : (n : ℕ) (os : List Op) (rs : List Row) → gather (row_after os) (amend away n rs) ≡ gather (row_after (toRemove n ∷ os)) rs
+gather_removes : (n : ℕ) (os : List Op) (rs : List Row) → gather (row_after os) (amend away n rs) ≡ gather (row_after (to_remove n ∷ os)) rs
 unfolding gather row_after amend away if◌then◌else◌
 gather_removes n os [] = refl
 gather_removes n os (r ∷ rs) = by (is_row n r) (λ h. rw (h, gather_removes n os rs)) (λ h. rw (h, gather_removes n os rs))
 
-gather_commits : (n : ℕ) (os : List Op) (rs : List Row) → gather (row_after os) (amend kept_row n rs) ≡ gather (row_after (toCommit n ∷ os)) rs
+gather_commits : (n : ℕ) (os : List Op) (rs : List Row) → gather (row_after os) (amend kept_row n rs) ≡ gather (row_after (to_commit n ∷ os)) rs
 unfolding gather row_after amend kept_row if◌then◌else◌
 gather_commits n os [] = refl
 gather_commits n os (r ∷ rs) = by (is_row n r) (λ h. rw (h, gather_commits n os rs)) (λ h. rw (h, gather_commits n os rs))
@@ -53,11 +53,11 @@ perform_entries : (os : List Op) (ps : List Page) → AllOf PageOk ps → Pairs 
     → Performed os (tagged (perform os ps)) (tagged ps)
 unfolding perform
 perform_entries [] ps a d = (sub_refl (plain (tagged ps)), sym (gather_nil (live_rows (tagged ps))))
-perform_entries (toCommit n ∷ os) ps a d =
+perform_entries (to_commit n ∷ os) ps a d =
     let m = amends_commit n ps a in
     let r = perform_entries os (commit n ps) (commit_row_ok (place_in n (numbers ps)) ps a) (sub_pairs Differ differ_alike m.0 d) in
     (sub_trans r.0 m.0, r.1 ∙ ap (gather (row_after os)) (m.1 (pairs_plain Differ (tagged ps) d)) ∙ gather_commits n os (live_rows (tagged ps)))
-perform_entries (toRemove n ∷ os) ps a d =
+perform_entries (to_remove n ∷ os) ps a d =
     let m = amends_remove n ps a in
     let r = perform_entries os (remove n ps) (remove_row_ok (place_in n (numbers ps)) ps a) (sub_pairs Differ differ_alike m.0 d) in
     (sub_trans r.0 m.0, r.1 ∙ ap (gather (row_after os)) (m.1 (pairs_plain Differ (tagged ps) d)) ∙ gather_removes n os (live_rows (tagged ps)))
@@ -79,8 +79,8 @@ mem_only {r} (there {y} m) d = (λ e. absurd (mem_all (Differ y) m d.0 e), mem_o
 -- ---- operations on other numbers
 
 unfoldable op_number : Op → ℕ
-op_number (toCommit n) = n
-op_number (toRemove n) = n
+op_number (to_commit n) = n
+op_number (to_remove n) = n
 
 abbrev Off : Row → Op → Type 0
 Off r o = is_row (op_number o) r ≡ false
@@ -88,8 +88,8 @@ Off r o = is_row (op_number o) r ≡ false
 off_append : (a b : List Op) (r : Row) → AllOf (Off r) a → row_after (a ++ b) r ≡ row_after b r
 unfolding row_after op_number if◌then◌else◌
 off_append [] b r h = refl
-off_append (toCommit n ∷ os) b r h = rw h.0 (off_append os b r h.1)
-off_append (toRemove n ∷ os) b r h = rw h.0 (off_append os b r h.1)
+off_append (to_commit n ∷ os) b r h = rw h.0 (off_append os b r h.1)
+off_append (to_remove n ∷ os) b r h = rw h.0 (off_append os b r h.1)
 
 off_after : (a : List Op) (r : Row) → AllOf (Off r) a → row_after a r ≡ r ∷ []
 unfolding row_after
@@ -206,11 +206,11 @@ module _ (tx : ℕ) (all : List Row) (d : Pairs Differ all) where
   off_settled x os h = h
 
   plan_key_live : (x : Row) (vs : List Row) → x.1.mark ≡ false
-      → plan_key x vs ≡ toCommit (number x) ∷ remove_all (keep (λ y. not (is_row (number x) y)) vs)
+      → plan_key x vs ≡ to_commit (number x) ∷ remove_all (keep (λ y. not (is_row (number x) y)) vs)
   unfolding plan_key if◌then◌else◌
   plan_key_live x vs m = rw m
 
-  commits_self : (x : Row) (os : List Op) → is_row (number x) x ≡ true → row_after (toCommit (number x) ∷ os) x ≡ row_after os (x.0, as_committed x.1)
+  commits_self : (x : Row) (os : List Op) → is_row (number x) x ≡ true → row_after (to_commit (number x) ∷ os) x ≡ row_after os (x.0, as_committed x.1)
   unfolding row_after if◌then◌else◌
   commits_self x os k = rw k
 

@@ -9,7 +9,7 @@ use Rattle.model.specs.State.{Held, nothing, Page, adding, Pending, removing, co
 use Rattle.model.specs.Rules.{held_size, shown, fresh, with_tuples, lead, split_once, fits, half, after, entering, without_pending, grown, place, place_after, place_front, joined}
 use Rattle.model.specs.Rules.{settle, list_of, as_committed, with_pending, commit_now, remove_now, pend_remove, is_adding, pend_commit, is_removing, around, applied}
 use Rattle.model.specs.Rules.{is_committing, live, split_all, is_pending, thaw_on, thaw, is_frozen, edit_at, pend_remove_at, remove_row_on, committed_at, commit_row_on, remove_row, commit_row}
-use Rattle.model.specs.Transactions.{PlaceOp, commitPlace, removePlace, carry_out}
+use Rattle.model.specs.Transactions.{PlaceOp, commit_place, remove_place, carry_out}
 use Rattle.basics.proofs.Elements.{all_map, leb-true, leb-false, all_take, all_drop, some_eq, all_append, has_some, all_parts, sum_append}
 use Rattle.basics.proofs.Lists.{sum_parts}
 use Rattle.model.proofs.Splits.{Small, half_between, after_all, together, split_all_lem}
@@ -256,8 +256,8 @@ commit_row_ok i ps a = all_row PageOk commit_row_on commit_row_on_ok i none ps t
 pub carry_ok : (n : ℕ) (os : List PlaceOp) (ps : List Page) → AllOf PageOk ps → AllOf PageOk (carry_out n os ps)
 unfolding carry_out
 carry_ok n [] ps a = a
-carry_ok n (commitPlace i ∷ os) ps a = carry_ok n os _ (commit_row_ok _ ps a)
-carry_ok n (removePlace i ∷ os) ps a = carry_ok n os _ (remove_row_ok _ ps a)
+carry_ok n (commit_place i ∷ os) ps a = carry_ok n os _ (commit_row_ok _ ps a)
+carry_ok n (remove_place i ∷ os) ps a = carry_ok n os _ (remove_row_ok _ ps a)
 
 -- ---- thawing
 

@@ -11,7 +11,7 @@ use Rattle.model.specs.Rules.{is_frozen}
 use Rattle.model.specs.Sight.{rows}
 use Rattle.model.specs.Transactions.{gives, changed, open_numbers, with_open, new_tuple, written_by, with_write, after_write, with_tuple, without, committed_pages, aborted_pages}
 use Rattle.model.specs.Checkpoint.{begin_call, with_progress, store_page, made, allocate, step_at, step_of, store_directory, store_header, step_call, run_call}
-use Rattle.model.specs.Calls.{TransactionCall, transact, Effect, no_effect, start_of, writeOf, commitOf, abortOf, effect, Call, transacts, begins, steps, runs, call, effect_of, accepted}
+use Rattle.model.specs.Calls.{TransactionCall, transact, Effect, no_effect, start_of, write_of, commit_of, abort_of, effect, Call, transacts, begins, steps, runs, call, effect_of, accepted}
 use Rattle.model.specs.Calls.{is_transaction, others, with_writer, writers, after_calls, had_written}
 use Rattle.basics.proofs.Elements.{Mem, many_none, all_map, eqb-true, all_mem, eqb_sym, many_length, in_keep, not-true, le_true, in_here, eqb_self, and_no, and_yes, any_many, in_past}
 use Rattle.model.proofs.Owners.{count_append, count_new, numbers_write, count_write, count_other, numbers_without, count_without}
@@ -37,9 +37,9 @@ closed u tx c = if eqb tx u then 0 else c
 unfoldable pub noted : Effect → ℕ → ℕ → ℕ
 noted no_effect u c = c
 noted (start_of tx) u c = c
-noted (writeOf tx) u c = wrote u tx c
-noted (commitOf tx) u c = closed u tx c
-noted (abortOf tx) u c = closed u tx c
+noted (write_of tx) u c = wrote u tx c
+noted (commit_of tx) u c = closed u tx c
+noted (abort_of tx) u c = closed u tx c
 
 unfoldable pub tally : Effect → Answer → ℕ → ℕ → ℕ
 tally c a u n = if accepted a then noted c u n else n
@@ -291,9 +291,9 @@ right_noted : (c : Effect) (n : ℕ → ℕ) (w : List ℕ) → Right n w → Ri
 unfolding noted writers
 right_noted no_effect n w r = r
 right_noted (start_of tx) n w r = r
-right_noted (writeOf tx) n w r = right_wrote tx n w r
-right_noted (commitOf tx) n w r = right_closed tx n w r
-right_noted (abortOf tx) n w r = right_closed tx n w r
+right_noted (write_of tx) n w r = right_wrote tx n w r
+right_noted (commit_of tx) n w r = right_closed tx n w r
+right_noted (abort_of tx) n w r = right_closed tx n w r
 
 tally_yes : (c : Effect) (a : Answer) (u n : ℕ) → accepted a ≡ true → tally c a u n ≡ noted c u n
 unfolding tally if◌then◌else◌

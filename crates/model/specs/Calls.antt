@@ -39,17 +39,17 @@ transact (crossings tx t first end room) s = crossing_call tx t first end room s
 -- what an accepted call is for the transactions: nothing, or one opens, writes a tuple, commits, aborts
 pub data Effect : Type 0 where
   no_effect : Effect
-  start_of writeOf commitOf abortOf : ℕ → Effect
+  start_of write_of commit_of abort_of : ℕ → Effect
 
 -- the effect of each
 unfoldable pub effect : TransactionCall → Effect
 effect (opens tx) = start_of tx
-effect (inserts tx t k bs) = writeOf tx
-effect (inserts_checked tx t k bs hours) = writeOf tx
-effect (replaces tx t k bs) = writeOf tx
-effect (deletes tx t k) = writeOf tx
-effect (commits tx) = commitOf tx
-effect (aborts tx) = abortOf tx
+effect (inserts tx t k bs) = write_of tx
+effect (inserts_checked tx t k bs hours) = write_of tx
+effect (replaces tx t k bs) = write_of tx
+effect (deletes tx t k) = write_of tx
+effect (commits tx) = commit_of tx
+effect (aborts tx) = abort_of tx
 effect (reads tx t k room) = no_effect
 effect (lists room) = no_effect
 effect (crossings tx t first end room) = no_effect
@@ -144,9 +144,9 @@ with_writer tx ws = if is_in tx ws then ws else tx ∷ ws
 unfoldable pub writers : Effect → List ℕ → List ℕ
 writers no_effect ws = ws
 writers (start_of tx) ws = ws
-writers (writeOf tx) ws = with_writer tx ws
-writers (commitOf tx) ws = others tx ws
-writers (abortOf tx) ws = others tx ws
+writers (write_of tx) ws = with_writer tx ws
+writers (commit_of tx) ws = others tx ws
+writers (abort_of tx) ws = others tx ws
 
 -- the open transactions that had written after a list of calls, of which ws had before
 unfoldable pub had_written : List Call → Store → List ℕ → List ℕ

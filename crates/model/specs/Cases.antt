@@ -6,7 +6,7 @@ use Rattle.block_bits.specs.Bits.{bits_of, number as number_of, bits_in, field}
 use Rattle.block_forms.specs.Limits.{most_number}
 use Rattle.block_forms.specs.Numbers.{num4, same}
 use Rattle.block_forms.specs.Tuple.{Owner, committed, tentative, Tuple, is_tentative, owner_size, size}
-use Rattle.block_forms.specs.Spell.{zeros, spell, bytes_of, padded as filledUp, block_of}
+use Rattle.block_forms.specs.Spell.{zeros, spell, bytes_of, padded as filled_up, block_of}
 use Rattle.block_forms.specs.Block.{Block, header, page, committed_bit, owner_fields, payload_fields, record_fields, records_fields, entry_fields, encode_block}
 use Rattle.block_forms.specs.Decode.{kind, spelled_by, read_header, header_in, read_owner, read_mark, read_tuple, record_length, is_record, read_tuples, page_table, page_count, page_level, page_spelled, page_in, read_entries, directory_count, directory_level, directory_in, decode_block}
 use Rattle.image_rows.specs.Rows.{row_rules}
@@ -17,7 +17,7 @@ use Rattle.model.specs.State.{Held, Page, idle, Store, Write, stored_bytes, Answ
 use Rattle.model.specs.Rules.{held_size, fresh, without_pending, joins, rules}
 use Rattle.model.specs.Sight.{held, rows, is_foreign, versions, seen_of, seen}
 use Rattle.model.specs.Transactions.{gives, unless, changed, open_call, replied, read_seen, read_call, listing, list_call, open_numbers, is_for, written_by, without, commit_call, abort_call, write_rules, place_rules}
-use Rattle.model.specs.Checkpoint.{with_progress as storedStore, is_free, allocate, free_count, is_running, blocks_needed, begin_call, left_of, left, made, fill, storable, store_page, store_directory, header_for, store_header, step_of, step_at, bad_image, step_call, in_turn, run_call}
+use Rattle.model.specs.Checkpoint.{with_progress as stored_store, is_free, allocate, free_count, is_running, blocks_needed, begin_call, left_of, left, made, fill, storable, store_page, store_directory, header_for, store_header, step_of, step_at, bad_image, step_call, in_turn, run_call}
 use Rattle.model.specs.Calls.{transact, effect, Call, transacts, begins, steps, runs, call, is_begin, effect_of, others, with_writer, writers, accepted, after_calls, had_written}
 use Rattle.model.specs.Recover.{memory_for, put_block, image_after, fresh_store, make, made_image, loaded, reopened, recovered_store, recover_pages, recover_below, recover}
 use Rattle.model.specs.Calls as calls
@@ -349,5 +349,5 @@ pub record Cuts : Type 0 where
 
 -- unfolds all definitions that the cases compute with: `unfolding cases`
 unfoldable pub cases : ℕ
-unfolding basics bits_of number_of bits_in field num4 same is_tentative owner_size size spell bytes_of filledUp block_of committed_bit owner_fields payload_fields record_fields records_fields entry_fields encode_block kind spelled_by read_header header_in read_owner read_mark read_tuple record_length is_record read_tuples page_table page_count page_level page_spelled page_in read_entries directory_count directory_level directory_in decode_block row_rules block_at block_count view whole_blocks block_ok is_zero directories_for directory_blocks unused_numbers counts_ok header_ok header_test entries_due add_entries read_directories entries_ok tested_entries directory_test page_ok add_page read_pages rows_of_pages tested_pages page_test header_stage pages_below pages_stage rules held rows is_foreign versions seen_of seen gives unless changed open_call replied read_seen read_call listing list_call write_rules place_rules open_numbers is_for written_by without others commit_call abort_call storedStore is_free allocate free_count is_running blocks_needed begin_call left_of left made fill storable store_page store_directory header_for store_header step_of step_at bad_image step_call in_turn run_call transact effect call is_begin effect_of with_writer writers accepted after_calls had_written put_block fresh_store make made_image loaded reopened recovered_store recover_pages recover_below recover tag log is_header landed image_with content answers writes shape many after5 tuple sample_page joining clean_page clean booking booking_bytes spelled first_spells committed_all reading image_after shape_of recovered_after answers_in places split_meanwhile commit_meanwhile committed_late three_times one_again both_frozen refused_calls last_store refusal_of owner_numbers tuple_numbers held_numbers page_numbers agrees recovers_to tears cut_here cut_everywhere script script_log
+unfolding basics bits_of number_of bits_in field num4 same is_tentative owner_size size spell bytes_of filled_up block_of committed_bit owner_fields payload_fields record_fields records_fields entry_fields encode_block kind spelled_by read_header header_in read_owner read_mark read_tuple record_length is_record read_tuples page_table page_count page_level page_spelled page_in read_entries directory_count directory_level directory_in decode_block row_rules block_at block_count view whole_blocks block_ok is_zero directories_for directory_blocks unused_numbers counts_ok header_ok header_test entries_due add_entries read_directories entries_ok tested_entries directory_test page_ok add_page read_pages rows_of_pages tested_pages page_test header_stage pages_below pages_stage rules held rows is_foreign versions seen_of seen gives unless changed open_call replied read_seen read_call listing list_call write_rules place_rules open_numbers is_for written_by without others commit_call abort_call stored_store is_free allocate free_count is_running blocks_needed begin_call left_of left made fill storable store_page store_directory header_for store_header step_of step_at bad_image step_call in_turn run_call transact effect call is_begin effect_of with_writer writers accepted after_calls had_written put_block fresh_store make made_image loaded reopened recovered_store recover_pages recover_below recover tag log is_header landed image_with content answers writes shape many after5 tuple sample_page joining clean_page clean booking booking_bytes spelled first_spells committed_all reading image_after shape_of recovered_after answers_in places split_meanwhile commit_meanwhile committed_late three_times one_again both_frozen refused_calls last_store refusal_of owner_numbers tuple_numbers held_numbers page_numbers agrees recovers_to tears cut_here cut_everywhere script script_log
 cases = 0

@@ -6,7 +6,7 @@ use Rattle.image_rows.specs.Rows.{row_rules}
 use Rattle.model.specs.State.{Pending, nothing, adding, removing, Held, Page}
 use Rattle.model.specs.Rules.{fresh, rules}
 use Rattle.model.specs.Sight.{held}
-use Rattle.model.specs.Transactions.{PlaceOp, commitPlace, removePlace, carry_out, close_plan, abort_plan, place_rules}
+use Rattle.model.specs.Transactions.{PlaceOp, commit_place, remove_place, carry_out, close_plan, abort_plan, place_rules}
 
 -- a tuple of key k and number n, with nothing in it
 unfoldable pub tuple_of : ℕ → ℕ → Owner → Bool → Pending → Held
@@ -65,23 +65,23 @@ scattered = fresh 0 (own 1 0 nothing ∷ old 2 1 nothing ∷ own 1 2 nothing ∷
 -- what is planned, and what comes of it
 pub record PlaceCases : Type 0 where
   -- the newest is committed before the others go; a delete mark goes with all others; the pages are joined, and later places still hold
-  pub close : close_plan 5 replaced ≡ commitPlace 2 ∷ removePlace 1 ∷ removePlace 3 ∷ removePlace 4 ∷ commitPlace 6 ∷ removePlace 5 ∷ []
+  pub close : close_plan 5 replaced ≡ commit_place 2 ∷ remove_place 1 ∷ remove_place 3 ∷ remove_place 4 ∷ commit_place 6 ∷ remove_place 5 ∷ []
   pub closed : after_plan (close_plan 5 replaced) replaced ≡ ((0, (false, nothing)) ∷ (4, (false, nothing)) ∷ (6, (false, nothing)) ∷ []) ∷ []
   -- abort removes the transaction's own tuples
-  pub abort : abort_plan 5 replaced ≡ removePlace 2 ∷ removePlace 4 ∷ removePlace 6 ∷ []
+  pub abort : abort_plan 5 replaced ≡ remove_place 2 ∷ remove_place 4 ∷ remove_place 6 ∷ []
   pub aborted : after_plan (abort_plan 5 replaced) replaced
       ≡ ((0, (false, nothing)) ∷ (1, (false, nothing)) ∷ (2, (false, nothing)) ∷ (3, (false, nothing)) ∷ []) ∷ []
   -- a frozen page notes the removals, and no place moves; pending adds are committed at once
-  pub close_frozen : close_plan 5 replaced_frozen ≡ commitPlace 1 ∷ removePlace 0 ∷ commitPlace 3 ∷ removePlace 2 ∷ commitPlace 5 ∷ removePlace 4 ∷ []
+  pub close_frozen : close_plan 5 replaced_frozen ≡ commit_place 1 ∷ remove_place 0 ∷ commit_place 3 ∷ remove_place 2 ∷ commit_place 5 ∷ remove_place 4 ∷ []
   pub closed_frozen : after_plan (close_plan 5 replaced_frozen) replaced_frozen
       ≡ ((0, (false, removing)) ∷ (3, (false, adding)) ∷ (1, (true, removing)) ∷ (4, (false, adding)) ∷ []) ∷ ((5, (false, nothing)) ∷ []) ∷ []
   -- abort: pending adds are taken away
   pub aborted_frozen : after_plan (abort_plan 5 replaced_frozen) replaced_frozen
       ≡ ((0, (false, nothing)) ∷ (1, (true, removing)) ∷ []) ∷ ((2, (false, nothing)) ∷ []) ∷ []
-  pub removed_before : close_plan 5 removed_before ≡ commitPlace 1 ∷ []
-  pub two_tables : close_plan 5 two_tables ≡ commitPlace 1 ∷ []
+  pub removed_before : close_plan 5 removed_before ≡ commit_place 1 ∷ []
+  pub two_tables : close_plan 5 two_tables ≡ commit_place 1 ∷ []
   -- versions of a key that are no neighbours are in different runs
-  pub scattered_runs : close_plan 5 scattered ≡ commitPlace 0 ∷ commitPlace 2 ∷ []
+  pub scattered_runs : close_plan 5 scattered ≡ commit_place 0 ∷ commit_place 2 ∷ []
 
 -- unfolds all definitions that these cases compute with: `unfolding place_cases`
 unfoldable pub place_cases : ℕ

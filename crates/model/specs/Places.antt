@@ -9,7 +9,7 @@ use Rattle.model.specs.WellFormed.{WellFormed}
 use Rattle.basics.specs.Lists.{remove_at}
 -- the definitions by place, passed on for crates that name them here
 unfoldable pub use Rattle.model.specs.Rules.{edit_at, pend_remove_at, remove_row_on, committed_at, commit_row_on, at_row, remove_row, commit_row}
-pub use Rattle.model.specs.Transactions.{Placed, row_of, same_key, plan_runs, PlaceOp, commitPlace, removePlace}
+pub use Rattle.model.specs.Transactions.{Placed, row_of, same_key, plan_runs, PlaceOp, commit_place, remove_place}
 unfoldable pub use Rattle.model.specs.Transactions.{tagged, placed, all_placed, continues, runs, all_runs, each_run, live_of, own_placed, remove_places, plan_newest, plan_run, close_plan, abort_plan, carry_out}
 
 -- ---- laws of any pages

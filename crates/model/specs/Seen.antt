@@ -10,7 +10,7 @@ use Rattle.model.specs.Sight.{rows, is_committed, versions, seen}
 use Rattle.model.specs.Transactions.{unless, open_numbers, full, argument_tests, new_tuple, with_tuple, write_call, insert_call, replace_call, delete_call, read_call, commit_call, abort_call}
 use Rattle.model.specs.Checked.{insert_checked_call}
 use Rattle.model.specs.Crossing.{crosses, crossing_keys}
-use Rattle.model.specs.Calls.{TransactionCall, transact, Effect, no_effect, start_of, writeOf, commitOf, abortOf, effect, Call, begins, steps, runs, call, effect_of, accepted}
+use Rattle.model.specs.Calls.{TransactionCall, transact, Effect, no_effect, start_of, write_of, commit_of, abort_of, effect, Call, begins, steps, runs, call, effect_of, accepted}
 use Rattle.model.specs.WellFormed.{WellFormed}
 
 -- ---- the writer
@@ -60,9 +60,9 @@ OtherKeysStay =
 unfoldable pub may_show : ℕ → Effect → Bool
 may_show u no_effect = false
 may_show u (start_of tx) = false
-may_show u (writeOf tx) = eqb tx u
-may_show u (commitOf tx) = true
-may_show u (abortOf tx) = eqb tx u
+may_show u (write_of tx) = eqb tx u
+may_show u (commit_of tx) = true
+may_show u (abort_of tx) = eqb tx u
 
 -- after every other call a transaction sees what it saw before, and if it is open it reads what it read
 abbrev pub SeenAsBefore : Type 0

@@ -222,7 +222,7 @@ rows_in xs = map (λ y. y.1) (live_of xs)
 
 -- an operation on the tuple of that place at entry
 pub data PlaceOp : Type 0 where
-  commitPlace removePlace : ℕ → PlaceOp
+  commit_place remove_place : ℕ → PlaceOp
 
 -- the transaction's own row
 unfoldable pub own_placed : ℕ → ℕ × Row → Bool
@@ -231,14 +231,14 @@ own_placed tx y = is_own tx y.1
 -- all of these are removed, by rising place
 unfoldable pub remove_places : List (ℕ × Row) → List PlaceOp
 remove_places [] = []
-remove_places (y ∷ ys) = removePlace y.0 ∷ remove_places ys
+remove_places (y ∷ ys) = remove_place y.0 ∷ remove_places ys
 
 -- ys: the live rows of a run; the newest own one, if there is one. A delete mark removes them all; else the newest is committed and then
 -- the others are removed
 unfoldable pub plan_newest : Option (ℕ × Row) → List (ℕ × Row) → List PlaceOp
 plan_newest none ys = []
 plan_newest (some x) ys =
-    if x.1.1.mark then remove_places ys else commitPlace x.0 ∷ remove_places (keep (λ y. not (eqb y.0 x.0)) ys)
+    if x.1.1.mark then remove_places ys else commit_place x.0 ∷ remove_places (keep (λ y. not (eqb y.0 x.0)) ys)
 
 -- the operations of a commit on one run
 unfoldable pub plan_run : ℕ → List Placed → List PlaceOp
@@ -262,8 +262,8 @@ abort_plan tx ps = remove_places (keep (own_placed tx) (live_of (all_placed ps))
 -- tuples gone since, which all stood before it.
 unfoldable pub carry_out : ℕ → List PlaceOp → List Page → List Page
 carry_out n [] ps = ps
-carry_out n (commitPlace i ∷ os) ps = carry_out n os (commit_row (i - (n - length (held ps))) ps)
-carry_out n (removePlace i ∷ os) ps = carry_out n os (remove_row (i - (n - length (held ps))) ps)
+carry_out n (commit_place i ∷ os) ps = carry_out n os (commit_row (i - (n - length (held ps))) ps)
+carry_out n (remove_place i ∷ os) ps = carry_out n os (remove_row (i - (n - length (held ps))) ps)
 
 -- the pages after a commit: its plan is carried out
 abbrev pub committed_pages : ℕ → List Page → List Page

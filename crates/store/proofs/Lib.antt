@@ -1,4 +1,3 @@
 pub mod Follows
 pub mod Line
-pub mod Signed
 pub mod Lives

@@ -2,7 +2,7 @@
 use Rattle.basics.proofs.Kit.{◌≡◌, refl, sym, subst, Bool, true, List, ℕ, rules}
 use Rattle.model.specs.Transactions.{open_call, insert_call, replace_call, delete_call, commit_call, abort_call}
 use Rattle.model.specs.Calls.{transact, opens, inserts, replaces, deletes, commits, aborts}
-use Rattle.log_records.specs.Records.{opened_by, committedBy, abortedBy, insertedBy, replacedBy, deleted_by}
+use Rattle.log_records.specs.Records.{opened_by, committed_by, aborted_by, inserted_by, replaced_by, deleted_by}
 use Rattle.log_records.specs.Entries.{change_is}
 use Rattle.log_records.specs.declared.Change.{Change}
 use Rattle.log_records.specs.declared.Change.TheVariants.{Open, Insert, Replace, Delete, Commit, Abort}
@@ -26,13 +26,13 @@ module _ (m : List ℕ) (h : holds_store m ≡ true) (r : Answer) {ok : Bool} {m
   insert_is : (tx t key n u v : ℕ) → u ≡ tx → v ≡ t → Answers (insert_call u v key bs) m r m' → OneRepeated (change_is (Insert tx t key n) bs) m ok m'
   unfolding change_is call_of transact
   insert_is tx t key n u v e f a =
-      one_repeated (insertedBy tx t key bs) (inserts tx t key bs) refl (insert_call tx t key bs) (λ z. refl) m h r
+      one_repeated (inserted_by tx t key bs) (inserts tx t key bs) refl (insert_call tx t key bs) (λ z. refl) m h r
       (subst (λ x. Answers (insert_call tx x key bs) m r m') f (subst (λ x. Answers (insert_call x v key bs) m r m') e a)) k
 
   replace_is : (tx t key n u v : ℕ) → u ≡ tx → v ≡ t → Answers (replace_call u v key bs) m r m' → OneRepeated (change_is (Replace tx t key n) bs) m ok m'
   unfolding change_is call_of transact
   replace_is tx t key n u v e f a =
-      one_repeated (replacedBy tx t key bs) (replaces tx t key bs) refl (replace_call tx t key bs) (λ z. refl) m h r
+      one_repeated (replaced_by tx t key bs) (replaces tx t key bs) refl (replace_call tx t key bs) (λ z. refl) m h r
       (subst (λ x. Answers (replace_call tx x key bs) m r m') f (subst (λ x. Answers (replace_call x v key bs) m r m') e a)) k
 
   delete_is : (tx t key u v : ℕ) → u ≡ tx → v ≡ t → Answers (delete_call u v key) m r m' → OneRepeated (change_is (Delete tx t key) bs) m ok m'
@@ -43,11 +43,11 @@ module _ (m : List ℕ) (h : holds_store m ≡ true) (r : Answer) {ok : Bool} {m
 
   commit_is : (tx u : ℕ) → u ≡ tx → Answers (commit_call u) m r m' → OneRepeated (change_is (Commit tx) bs) m ok m'
   unfolding change_is call_of transact
-  commit_is tx u e a = one_repeated (committedBy tx) (commits tx) refl (commit_call tx) (λ z. refl) m h r (subst (λ n. Answers (commit_call n) m r m') e a) k
+  commit_is tx u e a = one_repeated (committed_by tx) (commits tx) refl (commit_call tx) (λ z. refl) m h r (subst (λ n. Answers (commit_call n) m r m') e a) k
 
   abort_is : (tx u : ℕ) → u ≡ tx → Answers (abort_call u) m r m' → OneRepeated (change_is (Abort tx) bs) m ok m'
   unfolding change_is call_of transact
-  abort_is tx u e a = one_repeated (abortedBy tx) (aborts tx) refl (abort_call tx) (λ z. refl) m h r (subst (λ n. Answers (abort_call n) m r m') e a) k
+  abort_is tx u e a = one_repeated (aborted_by tx) (aborts tx) refl (abort_call tx) (λ z. refl) m h r (subst (λ n. Answers (abort_call n) m r m') e a) k
 
 pub returns-in-Open : goal.returns-in-Open
 returns-in-Open c = of _ c.in-Open.is (open_is c.args.s.now c.requires _ _ c.is_accepted.ensures _ _ c.wide.ensures c.«open».ensures)

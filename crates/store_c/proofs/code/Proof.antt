@@ -1,12 +1,12 @@
--- `store::code` meets its contract: an accepted answer's number stands as it is, a refusal's with its sign changed, within 64 bits.
+-- `store_c::code` meets its contract: an accepted answer's number stands as it is, a refusal's with its sign changed, within 64 bits.
 use Rattle.basics.proofs.Kit.{sym, ap, ◌∙◌, needs}
 use Rattle.store.specs.Code.{code}
-use Rattle.store.proofs.Signed.{back, minus_fits, minus_back}
-use Rattle.store.proofs.code.Statement.{statement}
-use Rattle.store.proofs.code.Tie as tie
-use Rattle.store.proofs.code.Reads as reads
-use Rattle.store.proofs.code.Lts as lts
-use Rattle.store.proofs.clamped.Reads as clamped-reads
+use Rattle.store_c.proofs.Signed.{back, minus_fits, minus_back}
+use Rattle.store_c.proofs.code.Statement.{statement}
+use Rattle.store_c.proofs.code.Tie as tie
+use Rattle.store_c.proofs.code.Reads as reads
+use Rattle.store_c.proofs.code.Lts as lts
+use Rattle.store_c.proofs.clamped.Reads as clamped-reads
 
 sub-result : tie.Need-overflow-sub-result
 sub-result c = minus_fits c.clamped3.result _ c.clamped3.ensures

@@ -1,11 +1,11 @@
--- `store::vodzanu_roll_forward` meets its contract: the end is written if the roll-forward is accepted, and stays else.
+-- `store_c::vodzanu_roll_forward` meets its contract: the end is written if the roll-forward is accepted, and stays else.
 use Rattle.basics.proofs.Kit.{◌≡◌, sym, ◌∙◌, true, false, ℕ, ⊎_elim, needs}
 use Rattle.basics.specs.Basics.{if◌then◌else◌}
 use Rattle.call_contracts.specs.Shape.{is_accepted}
 use Rattle.call_contracts.specs.declared.Answer.{Answer}
 use Rattle.store.specs.Code.{end_after}
-use Rattle.store.proofs.vodzanu_roll_forward.Statement.{statement}
-use Rattle.store.proofs.vodzanu_roll_forward.Tie as tie
+use Rattle.store_c.proofs.vodzanu_roll_forward.Statement.{statement}
+use Rattle.store_c.proofs.vodzanu_roll_forward.Tie as tie
 
 written : (a : Answer) (new old : ℕ) → is_accepted a ≡ true → end_after a new old ≡ new
 unfolding end_after if◌then◌else◌
