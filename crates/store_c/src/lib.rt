@@ -227,7 +227,16 @@ pub extern "C" fn vodzanu_logged_insert_checked(
         Logs (insert_checked_call transaction table key payload.now hours.now) (λ s. inserted_by transaction table key payload.now)
         memory.old log.old end.old a memory.new log.new) }
 {
-    let r = store::logged_insert_checked(memory, log, *end, transaction, table, key, payload, hours);
+    let r = store::logged_insert_checked(
+        memory,
+        log,
+        *end,
+        transaction,
+        table,
+        key,
+        payload,
+        hours,
+    );
     *end = r.end;
     let a = r.answer;
     code(a)

@@ -16,12 +16,12 @@ block_at-b-requires c = let l = c.loop-p in (l.invariant.becomes.room, naming_in
 
 pub push_named-requires : goal.push_named-requires
 push_named-requires c = let l = c.loop-p in (
-      l.invariant.becomes.room,
-      record {
-        few = naming_room l.invariant c.loop-p-test.true c.requires.0;
-        fits = naming_low l.invariant c.loop-p-test.true c.block_at-b.ensures;
-      },
-    )
+  l.invariant.becomes.room,
+  record {
+    few = naming_room l.invariant c.loop-p-test.true c.requires.0;
+    fits = naming_low l.invariant c.loop-p-test.true c.block_at-b.ensures;
+  },
+)
 
 pub overflow_add-p : goal.overflow_add-p
 overflow_add-p c = omega (arith, c.loop-p.invariant.whole, c.loop-p-test.true, sizes (holds_room _ c.requires.0))

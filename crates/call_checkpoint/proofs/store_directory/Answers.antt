@@ -24,12 +24,12 @@ overflow_add-h c = record { fits = omega (arith, (running_is _ c.requires.0.read
 pub write_directory-requires : goal.write_directory-requires
 unfolding directories_for
 write_directory-requires c = let p = c.requires in (
-      holds_room _ p.0.ready.runs.has_store,
-      record {
-        start = omega (arith, p.0.short, directories_read _ c.get_counts-c.ensures);
-        size = simp (length-take, length-drop) (omega (arith, p.0.ready.long, c.allocate-b.ensures.1));
-      },
-    )
+  holds_room _ p.0.ready.runs.has_store,
+  record {
+    start = omega (arith, p.0.short, directories_read _ c.get_counts-c.ensures);
+    size = simp (length-take, length-drop) (omega (arith, p.0.ready.long, c.allocate-b.ensures.1));
+  },
+)
 
 pub overflow_cast-block : goal.overflow_cast-block
 overflow_cast-block c = record { fits = omega (arith, c.allocate-b.ensures.1, sizes (holds_room _ c.requires.0.ready.runs.has_store)) }
@@ -42,8 +42,8 @@ keep_directory-requires c = let p = c.requires in
 pub returns : goal.returns
 unfolding with_progress
 returns c = let k = c.keep_directory.ensures in (
-      directory_does c.requires.0.ready.runs c.requires.0.none_frozen _ _ _ c.requires.0.short c.allocate-b.ensures.0 (directories_read _ c.get_counts-c.ensures)
-          (ap (λ (x : Head). x.level + 1) c.get_head-h.ensures) c.write_directory.ensures
-          (back_is _ _ _) k,
-      taken_now k,
-    )
+  directory_does c.requires.0.ready.runs c.requires.0.none_frozen _ _ _ c.requires.0.short c.allocate-b.ensures.0 (directories_read _ c.get_counts-c.ensures)
+      (ap (λ (x : Head). x.level + 1) c.get_head-h.ensures) c.write_directory.ensures
+      (back_is _ _ _) k,
+  taken_now k,
+)

@@ -50,8 +50,8 @@ keep_page-requires c = let p = c.requires in
 pub returns : goal.returns
 unfolding with_progress
 returns c = let k = c.keep_page.ensures in (
-      page_does c.requires.0.ready.runs _ _ _ _ _ _ c.requires.0.first_frozen c.allocate-b.ensures.0 c.table_of-t.ensures.0 c.start_of-s.ensures.0
-          c.start_of-e.ensures.0 (ap (λ (x : Head). x.level + 1) c.get_head-h.ensures)
-          c.write_page.ensures (back_is _ _ _) k,
-      taken_now k,
-    )
+  page_does c.requires.0.ready.runs _ _ _ _ _ _ c.requires.0.first_frozen c.allocate-b.ensures.0 c.table_of-t.ensures.0 c.start_of-s.ensures.0
+      c.start_of-e.ensures.0 (ap (λ (x : Head). x.level + 1) c.get_head-h.ensures)
+      c.write_page.ensures (back_is _ _ _) k,
+  taken_now k,
+)

@@ -17,8 +17,8 @@ stays a new old h = rw h
 
 pub returns : goal.returns
 returns c = record {
-      answer = c.roll_forward-r.result;
-      holds = c.roll_forward-r.ensures;
-      number = search rules;
-      end = elim c.if-is_accepted.branch [ then-is_accepted w ↦ w.end-is ∙ sym (written _ _ _ (sym c.is_accepted.ensures ∙ w.if-is_accepted.true)) | else-is_accepted w ↦ w.end-is ∙ sym (stays _ _ _ (sym c.is_accepted.ensures ∙ w.if-is_accepted.false)) ];
-    }
+  answer = c.roll_forward-r.result;
+  holds = c.roll_forward-r.ensures;
+  number = search rules;
+  end = elim c.if-is_accepted.branch [ then-is_accepted w ↦ w.end-is ∙ sym (written _ _ _ (sym c.is_accepted.ensures ∙ w.if-is_accepted.true)) | else-is_accepted w ↦ w.end-is ∙ sym (stays _ _ _ (sym c.is_accepted.ensures ∙ w.if-is_accepted.false)) ];
+}
