@@ -67,6 +67,21 @@ def own_crates():
     return sorted(c for c in os.listdir(CRATES) if os.path.isdir(os.path.join(CRATES, c, "src")))
 
 
+# The library's `if◌then◌else◌` is another one: that of the repository is for types of every level, and unfolds only where a proof says so.
+CHOICE = re.compile(r"(?<![\w.'◌-])if(?=◌then◌else◌| )(?![\w'-])")
+
+
+def choice(path, text):
+    """The repository's own choice, as `if' test then x else y`."""
+    lines = text.split("\n")
+    for i, line in enumerate(lines):
+        if line.lstrip().startswith(("--", "//", "#")):
+            continue
+        if path.endswith(".antt") or "◌then◌" in line or re.search(r"\bif\b.*\bthen\b", line):
+            lines[i] = CHOICE.sub("if'", line)
+    return "\n".join(lines)
+
+
 def main():
     own_crate, texts = own_crates(), {p: read(p) for p in files((".antt", ".rt", ".edit"))}
     kit, kinds, where = set(), collections.defaultdict(set), collections.defaultdict(set)
@@ -110,6 +125,7 @@ def main():
             ):
                 here[old] = new
         new = TOKEN.sub(lambda m: m[1] + ((snake(m[2]) if m[2] in turned else m[2]) if m[1] else here.get(m[2], m[2])), text)
+        new = choice(path, new)
         if new != text:
             with open(path, "w", encoding="utf-8", newline="") as f:
                 f.write(new)

@@ -2,7 +2,7 @@
 use Rattle.basics.proofs.Kit.{◌≡◌, refl, sym, ap, ◌∙◌, subst, Bool, true, false, ◌&&◌, ◌||◌, some, none, List, [], ◌∷◌, ◌++◌, map, ℕ, ne_eqb, le-leb, not}
 use Rattle.basics.proofs.Kit.{suc, ◌+◌, ◌≤◌, ◌<◌, zero, leb, eqb, ltb, T}
 use Rattle.basics.proofs.Kit.{eqb_refl, le→leb, length, take, drop, get_or, arith}
-use Rattle.basics.specs.Basics.{if◌then◌else◌, every, all, keep, is_empty, first, last, any, how_many, is_in, sum}
+use Rattle.basics.specs.Basics.{if'◌then◌else◌, every, all, keep, is_empty, first, last, any, how_many, is_in, sum}
 use Rattle.basics.proofs.Facts.{by, lie, AllOf, and_true, never, by-option}
 pub use Rattle.basics.proofs.Kit.{not-true, not-false}
 -- ---- tests
@@ -142,12 +142,12 @@ module _ {A : Type 0} where
   all_mem P (r ∷ rs) f = (f r here, all_mem P rs (λ s m. f s (there m)))
 
   pub mem_keep : (f : A → Bool) {r : A} {rs : List A} → Mem r rs → f r ≡ true → Mem r (keep f rs)
-  unfolding keep if◌then◌else◌
+  unfolding keep if'◌then◌else◌
   mem_keep f here h = rw h here
   mem_keep f (there {y} m) h = by (f y) (λ k. rw k (there (mem_keep f m h))) (λ k. rw k (mem_keep f m h))
 
   pub all_keep : (P : A → Type 0) (f : A → Bool) (rs : List A) → AllOf P rs → AllOf (λ r. (f r ≡ true) × P r) (keep f rs)
-  unfolding keep if◌then◌else◌
+  unfolding keep if'◌then◌else◌
   all_keep P f [] a = tt
   all_keep P f (r ∷ rs) a = by (f r) (λ h. rw h ((h, a.0), all_keep P f rs a.1)) (λ h. rw h (all_keep P f rs a.1))
 
@@ -176,7 +176,7 @@ module _ {A : Type 0} where
   pairs_both R S (r ∷ rs) p q = (all_two (R r) (S r) (λ b. R r b × S r b) (λ b h k. (h, k)) rs p.0 q.0, pairs_both R S rs p.1 q.1)
 
   pub pairs_keep : (R : A → A → Type 0) (f : A → Bool) (rs : List A) → Pairs R rs → Pairs R (keep f rs)
-  unfolding keep if◌then◌else◌
+  unfolding keep if'◌then◌else◌
   pairs_keep R f [] p = tt
   pairs_keep R f (r ∷ rs) p =
       by (f r)
@@ -225,7 +225,7 @@ module _ {A : Type 0} (f : A → Bool) where
       by (f x) (λ h. let k : x ≡ y = some_eq (rw (h, first) at e) in subst P k a.0) (λ h. first_all P xs y (rw (h, first) at e) a.1)
 
   pub last_mem : (xs : List A) (y : A) → last f xs ≡ some y → Mem y xs × (f y ≡ true)
-  unfolding last if◌then◌else◌
+  unfolding last if'◌then◌else◌
   last_mem [] y e = never e
   last_mem (x ∷ xs) y e =
       by-option (last f xs)
@@ -233,7 +233,7 @@ module _ {A : Type 0} (f : A → Bool) where
       (λ z n. let k : z ≡ y = some_eq (rw (n, last) at e) in let r = last_mem xs z n in subst (λ w. Mem w (x ∷ xs) × (f w ≡ true)) k (there r.0, r.1))
 
   pub last_off : (xs : List A) → last f xs ≡ none → AllOf (λ r. f r ≡ false) xs
-  unfolding last if◌then◌else◌
+  unfolding last if'◌then◌else◌
   last_off [] e = tt
   last_off (x ∷ xs) e =
       by-option (last f xs)
@@ -241,13 +241,13 @@ module _ {A : Type 0} (f : A → Bool) where
       (λ z n. never (sym (rw (n, last) at e)))
 
   pub last_any : (xs : List A) (y : A) → last f xs ≡ some y → any f xs ≡ true
-  unfolding last any if◌then◌else◌
+  unfolding last any if'◌then◌else◌
   last_any [] y h = never h
   last_any (x ∷ xs) y h =
       by (f x) (λ k. rw (k, any)) (λ k. rw (k, any) (by-option (last f xs) (λ n. never (rw (n, k) at h)) (λ z n. last_any xs z n)))
 
   pub last_skip : (x : A) (xs : List A) → f x ≡ false → last f (x ∷ xs) ≡ last f xs
-  unfolding last if◌then◌else◌
+  unfolding last if'◌then◌else◌
   last_skip x xs k = by-option (last f xs) (λ n. rw (n, k)) (λ y n. rw (n, last))
 
   pub last_some : (x : A) (xs : List A) (y : A) → last f xs ≡ some y → last f (x ∷ xs) ≡ some y
@@ -255,7 +255,7 @@ module _ {A : Type 0} (f : A → Bool) where
   last_some x xs y n = rw (n, last)
 
   pub last_here : (x : A) (xs : List A) → last f xs ≡ none → f x ≡ true → last f (x ∷ xs) ≡ some x
-  unfolding last if◌then◌else◌
+  unfolding last if'◌then◌else◌
   last_here x xs n k = rw (n, k)
 
   pub any_cons : (r : A) (rs : List A) → any f (r ∷ rs) ≡ (f r || any f rs)
@@ -276,65 +276,65 @@ module _ {A : Type 0} (f : A → Bool) where
 
 module _ {A : Type 0} (f : A → Bool) where
   pub keep_length : (xs : List A) → length (keep f xs) ≤ length xs
-  unfolding keep if◌then◌else◌
+  unfolding keep if'◌then◌else◌
   keep_length [] = omega arith
   keep_length (x ∷ xs) = let k = keep_length xs in by (f x) (λ h. rw h (omega arith)) (λ h. rw h (omega arith))
 
   pub keep_append : (a b : List A) → keep f (a ++ b) ≡ keep f a ++ keep f b
-  unfolding keep if◌then◌else◌
+  unfolding keep if'◌then◌else◌
   keep_append [] b = refl
   keep_append (r ∷ a) b = by (f r) (λ h. rw (h, keep_append a b)) (λ h. rw (h, keep_append a b))
 
   pub keep_none : (rs : List A) → AllOf (λ r. f r ≡ false) rs → keep f rs ≡ []
-  unfolding keep if◌then◌else◌
+  unfolding keep if'◌then◌else◌
   keep_none [] a = refl
   keep_none (r ∷ rs) a = rw a.0 (keep_none rs a.1)
 
   pub keep_all : (rs : List A) → AllOf (λ r. f r ≡ true) rs → keep f rs ≡ rs
-  unfolding keep if◌then◌else◌
+  unfolding keep if'◌then◌else◌
   keep_all [] h = refl
   keep_all (r ∷ rs) h = rw (h.0, keep_all rs h.1)
 
   pub keep_cons : (r : A) (rs : List A) → f r ≡ true → keep f (r ∷ rs) ≡ r ∷ keep f rs
-  unfolding keep if◌then◌else◌
+  unfolding keep if'◌then◌else◌
   keep_cons r rs h = rw h
 
   pub keep_past : (r : A) (rs : List A) → f r ≡ false → keep f (r ∷ rs) ≡ keep f rs
-  unfolding keep if◌then◌else◌
+  unfolding keep if'◌then◌else◌
   keep_past r rs h = rw h
 
   pub many_append : (a b : List A) → how_many f (a ++ b) ≡ how_many f a + how_many f b
-  unfolding how_many if◌then◌else◌
+  unfolding how_many if'◌then◌else◌
   many_append [] b = omega arith
   many_append (x ∷ a) b = let e = many_append a b in by (f x) (λ h. rw h (omega arith)) (λ h. rw h e)
 
   pub many_none : (rs : List A) → AllOf (λ r. f r ≡ false) rs → how_many f rs ≡ 0
-  unfolding how_many if◌then◌else◌
+  unfolding how_many if'◌then◌else◌
   many_none [] h = refl
   many_none (r ∷ rs) h = rw h.0 (many_none rs h.1)
 
   pub many_insert : (a : List A) (x : A) (b : List A) → f x ≡ false → how_many f (a ++ x ∷ b) ≡ how_many f (a ++ b)
-  unfolding how_many if◌then◌else◌
+  unfolding how_many if'◌then◌else◌
   many_insert [] x b h = rw h
   many_insert (y ∷ a) x b h = rw (many_insert a x b h)
 
   pub first_none : (xs : List A) → first f xs ≡ none → how_many f xs ≡ 0
-  unfolding first how_many if◌then◌else◌
+  unfolding first how_many if'◌then◌else◌
   first_none [] e = refl
   first_none (x ∷ xs) e = by (f x) (λ h. never (sym (rw (h, first) at e))) (λ h. rw h (first_none xs (rw (h, first) at e)))
 
   pub any_many : (rs : List A) → any f rs ≡ ltb 0 (how_many f rs)
-  unfolding any how_many if◌then◌else◌
+  unfolding any how_many if'◌then◌else◌
   any_many [] = refl
   any_many (r ∷ rs) = by (f r) (λ h. rw (h, any) (sym (le_true 1 (suc (how_many f rs)) (omega arith)))) (λ h. rw (h, any) (any_many rs))
 
 pub many_ext : {A : Type 0} (f g : A → Bool) (rs : List A) → AllOf (λ r. f r ≡ g r) rs → how_many f rs ≡ how_many g rs
-unfolding how_many if◌then◌else◌
+unfolding how_many if'◌then◌else◌
 many_ext f g [] a = refl
 many_ext f g (r ∷ rs) a = rw (a.0, many_ext f g rs a.1)
 
 pub any_keep : {A : Type 0} (f g : A → Bool) (rs : List A) → any f (keep g rs) ≡ false → AllOf (λ r. g r ≡ true → f r ≡ false) rs
-unfolding any keep if◌then◌else◌
+unfolding any keep if'◌then◌else◌
 any_keep f g [] e = tt
 any_keep f g (r ∷ rs) e =
     by (g r)
@@ -384,7 +384,7 @@ all_in P [] f = tt
 all_in P (t ∷ ts) f = (f t (in_head t ts), all_in P ts (λ x h. f x (in_weak x t ts h)))
 
 pub in_keep : (x : ℕ) (f : ℕ → Bool) (os : List ℕ) → is_in x (keep f os) ≡ (is_in x os && f x)
-unfolding is_in any keep if◌then◌else◌
+unfolding is_in any keep if'◌then◌else◌
 in_keep x f [] = refl
 in_keep x f (o ∷ os) =
     let r = in_keep x f os in
@@ -396,7 +396,7 @@ in_keep x f (o ∷ os) =
 
 -- no more pass than there are
 pub many_length : {A : Type 0} (f : A → Bool) (xs : List A) → how_many f xs ≤ length xs
-unfolding how_many if◌then◌else◌
+unfolding how_many if'◌then◌else◌
 many_length f [] = omega arith
 many_length f (x ∷ xs) = let k = many_length f xs in by (f x) (λ h. rw h (omega arith)) (λ h. rw h (omega arith))
 

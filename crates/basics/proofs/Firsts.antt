@@ -1,6 +1,6 @@
 -- The first element that passes a test: along a list, in lists joined, among numbers in a row, and by its index.
 use Rattle.basics.proofs.Kit.{◌≡◌, refl, sym, ap, ◌∙◌, Bool, true, false, cond, some, none, List, [], ◌∷◌, ◌++◌, ℕ, suc, ◌+◌, ◌≤◌, ◌<◌, zero, ◌-◌, add-one, drop, arith}
-use Rattle.basics.specs.Basics.{AllOf, if◌then◌else◌, how_many, first, from}
+use Rattle.basics.specs.Basics.{AllOf, if'◌then◌else◌, how_many, first, from}
 use Rattle.basics.specs.Lists.{first_index}
 use Rattle.basics.proofs.Facts.{by, never}
 use Rattle.basics.proofs.Elements.{all_map}
@@ -57,7 +57,7 @@ none_cons x xs e = let z : ◌≡◌ {A = ℕ} 0 1 = cc in omega arith
 
 -- none passes
 pub many_none : {A : Type 0} (hit : A → Bool) (ps : List A) → how_many hit ps ≡ 0 → first hit ps ≡ none
-unfolding first how_many if◌then◌else◌
+unfolding first how_many if'◌then◌else◌
 many_none hit [] e = refl
 many_none hit (q ∷ qs) e = by (hit q) (λ t. absurd (omega (arith, (rw t at e)))) (λ t. first_past hit q qs t ∙ many_none hit qs (rw t at e))
 
@@ -73,7 +73,7 @@ index_some hit (suc p) q (r ∷ ps) e d =
 
 -- none before it does
 pub index_many : {A : Type 0} (hit : A → Bool) (p : ℕ) (ps : List A) → p ≡ first_index hit ps → how_many hit (drop p ps) ≡ how_many hit ps
-unfolding how_many if◌then◌else◌
+unfolding how_many if'◌then◌else◌
 index_many hit zero ps e = refl
 index_many hit (suc p) [] e = refl
 index_many hit (suc p) (q ∷ ps) e =

@@ -1,6 +1,6 @@
 -- Tests and counts over the numbers from one on, in a row.
 use Rattle.basics.proofs.Kit.{◌≡◌, refl, sym, ap, ◌∙◌, Bool, true, false, ◌&&◌, List, ◌∷◌, ℕ, suc, ◌+◌, ◌≤◌, ◌<◌, zero, ◌-◌, add-zero, length, ne_eqb, arith}
-use Rattle.basics.specs.Basics.{AllOf, if◌then◌else◌, one_if, any, all, paired, how_many, is_in, distinct, from}
+use Rattle.basics.specs.Basics.{AllOf, if'◌then◌else◌, one_if, any, all, paired, how_many, is_in, distinct, from}
 use Rattle.basics.specs.Lists.{tab}
 use Rattle.basics.proofs.Ands.{and_yes, and_assoc}
 use Rattle.basics.proofs.Facts.{by}
@@ -49,7 +49,7 @@ all_snoc f i (suc k) =
 -- ---- counts
 
 pub many_cons : {A : Type 0} (f : A → Bool) (x : A) (xs : List A) → how_many f (x ∷ xs) ≡ one_if (f x) + how_many f xs
-unfolding how_many if◌then◌else◌
+unfolding how_many if'◌then◌else◌
 many_cons f x xs = by (f x) (λ e. rw e (omega arith)) (λ e. rw e (omega arith))
 
 module _ (f : ℕ → Bool) (b n : ℕ) where

@@ -1,6 +1,6 @@
 -- One turn of each search and test along a list, whose head is known; and the lists' heads: what is left of a list, and a list by its index.
 use Rattle.basics.proofs.Kit.{◌≡◌, sym, ap, ◌∙◌, Bool, true, false, List, [], ◌∷◌, ℕ, suc, ◌+◌, ◌≤◌, ◌<◌, ◌-◌, add-one, length, drop, get_or, drop_of_length-le, drop-cons, arith}
-use Rattle.basics.specs.Basics.{if◌then◌else◌, any, all, paired, how_many}
+use Rattle.basics.specs.Basics.{if'◌then◌else◌, any, all, paired, how_many}
 use Rattle.basics.specs.Lists.{tab}
 use Rattle.basics.proofs.Searches.{tab_next}
 
@@ -36,11 +36,11 @@ module _ {A : Type 0} (f : A → Bool) {x : A} {xs l : List A} (e : l ≡ x ∷ 
   all_not t = rw (e, t)
 
   pub count_yes : f x ≡ true → how_many f l ≡ suc (how_many f xs)
-  unfolding how_many if◌then◌else◌
+  unfolding how_many if'◌then◌else◌
   count_yes t = rw (e, t)
 
   pub count_not : f x ≡ false → how_many f l ≡ how_many f xs
-  unfolding how_many if◌then◌else◌
+  unfolding how_many if'◌then◌else◌
   count_not t = rw (e, t)
 
 module _ {A : Type 0} (f : A → A → Bool) {x y : A} {xs l : List A} (e : l ≡ x ∷ y ∷ xs) where

@@ -1,6 +1,6 @@
 -- Tests of a list whose elements were changed but for what the test sees.
 use Rattle.basics.proofs.Kit.{◌≡◌, refl, Bool, List, [], ◌∷◌, map}
-use Rattle.basics.specs.Basics.{if◌then◌else◌, all, paired, how_many}
+use Rattle.basics.specs.Basics.{if'◌then◌else◌, all, paired, how_many}
 
 module _ {A : Type 0} (f g : A → Bool) (h : A → A) (e : (x : A) → f (h x) ≡ g x) where
   pub all_kept : (xs : List A) → all f (map h xs) ≡ all g xs
@@ -9,7 +9,7 @@ module _ {A : Type 0} (f g : A → Bool) (h : A → A) (e : (x : A) → f (h x) 
   all_kept (x ∷ xs) = rw (e x, all_kept xs)
 
   pub count_kept : (xs : List A) → how_many f (map h xs) ≡ how_many g xs
-  unfolding how_many if◌then◌else◌
+  unfolding how_many if'◌then◌else◌
   count_kept [] = refl
   count_kept (x ∷ xs) = rw (e x, count_kept xs)
 

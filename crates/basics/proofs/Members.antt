@@ -1,6 +1,6 @@
 -- Members of a list of numbers, and lists in which each number stands once, by index.
 use Rattle.basics.proofs.Kit.{◌≡◌, refl, sym, ap, ◌∙◌, Bool, true, false, not, ◌||◌, List, [], ◌∷◌, ℕ, suc, ◌<◌, zero, eqb, length, get_or, eq-eqb, ne_eqb, eqb-true, not-true, arith}
-use Rattle.basics.specs.Basics.{AllOf, any, is_in, distinct, how_many, keep, if◌then◌else◌}
+use Rattle.basics.specs.Basics.{AllOf, any, is_in, distinct, how_many, keep, if'◌then◌else◌}
 use Rattle.basics.proofs.Facts.{by, lie, and_true}
 use Rattle.basics.proofs.Elements.{any_cons, eqb_swap, in_here, in_past, any_many, eqb_self, many_append, all_in, in_all, eqb_sym, not_in, in_append, in_one, in_keep, not_in_all}
 use Rattle.basics.proofs.Iterations.{any_end, any_not, any_yes}
@@ -59,7 +59,7 @@ fails_not_in used b [] p h a = refl
 fails_not_in used b (e ∷ es) p h a =
     by (eqb b e) (λ k. let q = eqb-true b e k in lie (sym h ∙ ap used q ∙ a.0 (subst (λ z. 0 < z) q p))) (λ k. rw (k, any) (fails_not_in used b es p h a.1))
 
-pub one_many : (b i : ℕ) → how_many (eqb b) (i ∷ []) ≡ (if eqb b i then 1 else 0)
+pub one_many : (b i : ℕ) → how_many (eqb b) (i ∷ []) ≡ (if' eqb b i then 1 else 0)
 unfolding how_many
 one_many b i = refl
 
@@ -72,8 +72,8 @@ unfolding is_in
 in_many b es h = leb-true 1 (how_many (eqb b) es) (sym (any_many (eqb b) es) ∙ h)
 
 -- in a list without repeats a number stands once or not at all
-pub once_many : (x : ℕ) (xs : List ℕ) → distinct xs ≡ true → how_many (eqb x) xs ≡ (if is_in x xs then 1 else 0)
-unfolding distinct how_many if◌then◌else◌
+pub once_many : (x : ℕ) (xs : List ℕ) → distinct xs ≡ true → how_many (eqb x) xs ≡ (if' is_in x xs then 1 else 0)
+unfolding distinct how_many if'◌then◌else◌
 once_many x [] d = unfold is_in any in refl
 once_many x (y ∷ ys) d =
     let q = and_true (not (is_in y ys)) (distinct ys) d in
@@ -88,10 +88,10 @@ once_distinct [] p o = refl
 once_distinct (e ∷ es) p o = rw (alone, once_distinct es p.1 (λ b h. let l = fewer b in omega (arith, o b h)))
   where
     fewer : (b : ℕ) → how_many (eqb b) es ≤ how_many (eqb b) (e ∷ es)
-    fewer b = unfold how_many if◌then◌else◌ in by (eqb b e) (λ k. rw k (omega arith)) (λ k. rw k (omega arith))
+    fewer b = unfold how_many if'◌then◌else◌ in by (eqb b e) (λ k. rw k (omega arith)) (λ k. rw k (omega arith))
 
     more : how_many (eqb e) (e ∷ es) ≡ suc (how_many (eqb e) es)
-    more = unfold how_many if◌then◌else◌ in rw (eqb_self e)
+    more = unfold how_many if'◌then◌else◌ in rw (eqb_self e)
 
     alone : is_in e es ≡ false
     alone = by (is_in e es) (λ h. let l = in_many e es h in absurd (omega (arith, o e p.0, more))) (λ h. h)
@@ -116,7 +116,7 @@ distinct_snoc x (o ∷ os) h d =
     rw (in_append o os, not-true (is_in o os) k.0, in_one o x (eqb_sym x o n.0), distinct_snoc x os n.1 k.1)
 
 pub distinct_keep : (f : ℕ → Bool) (os : List ℕ) → distinct os ≡ true → distinct (keep f os) ≡ true
-unfolding distinct keep if◌then◌else◌
+unfolding distinct keep if'◌then◌else◌
 distinct_keep f [] d = refl
 distinct_keep f (o ∷ os) d =
     let k = and_true (not (is_in o os)) (distinct os) d in
@@ -160,7 +160,7 @@ distinct_both xs (y ∷ ys) p q n =
     last z i o = in_past z y [] (member_apart z y ys i o) ∙ (unfold is_in any in refl)
 
 pub many_distinct : (b : ℕ) (es : List ℕ) → distinct es ≡ true → how_many (eqb b) es ≤ 1
-many_distinct b es d = let o = once_many b es d in unfold if◌then◌else◌ in by (is_in b es) (λ h. omega (arith, rw h at o)) (λ h. omega (arith, rw h at o))
+many_distinct b es d = let o = once_many b es d in unfold if'◌then◌else◌ in by (is_in b es) (λ h. omega (arith, rw h at o)) (λ h. omega (arith, rw h at o))
 
 -- all but x
 abbrev but : ℕ → List ℕ → List ℕ
@@ -170,7 +170,7 @@ pub in_but : (x y : ℕ) (xs : List ℕ) → eqb y x ≡ false → is_in y xs �
 in_but x y xs h i = in_keep y (λ z. not (eqb z x)) xs ∙ rw (i, h)
 
 but_less : (x : ℕ) (xs : List ℕ) → is_in x xs ≡ true → length (but x xs) < length xs
-unfolding keep if◌then◌else◌ is_in any
+unfolding keep if'◌then◌else◌ is_in any
 but_less x [] h = lie h
 but_less x (y ∷ xs) h =
     let l = keep_length (λ z. not (eqb z x)) xs in

@@ -1,7 +1,7 @@
 -- Searches in lists by index, and one turn of each loop that searches a list.
 use Rattle.basics.proofs.Kit.{◌≡◌, refl, sym, ap, ◌∙◌, ⊎_elim, Bool, true, false, ◌&&◌, ◌||◌, cond, or_assoc, List, [], ◌∷◌, ◌++◌, ℕ, suc, ◌+◌, ◌≤◌, ◌<◌, zero, ◌-◌}
 use Rattle.basics.proofs.Kit.{zero-add, suc-add, length, arith}
-use Rattle.basics.specs.Basics.{any, all, how_many, paired, from, if◌then◌else◌}
+use Rattle.basics.specs.Basics.{any, all, how_many, paired, from, if'◌then◌else◌}
 use Rattle.basics.specs.Lists.{tab, first_index, last_index}
 use Rattle.basics.proofs.Ands.{and_yes, and_assoc}
 use Rattle.basics.proofs.Tabs.{tab_add, tab_cong, length_tab, lt_or_ge}
@@ -82,10 +82,10 @@ module _ {A : Type 0} (f : A → Bool) where
   last_snoc (y ∷ xs) x h = ap (λ (k : ℕ). elim k [ zero ↦ cond (f y) 1 0 | suc j ↦ suc (suc j) ]) (last_snoc xs x h)
 
   pub count_cons : (x : A) (xs : List A) → how_many f (x ∷ xs) ≡ cond (f x) 1 0 + how_many f xs
-  unfolding how_many if◌then◌else◌
+  unfolding how_many if'◌then◌else◌
   count_cons x xs = by_test (f x) (how_many f xs)
     where
-      by_test : (b : Bool) (k : ℕ) → (if b then suc k else k) ≡ cond b 1 0 + k
+      by_test : (b : Bool) (k : ℕ) → (if' b then suc k else k) ≡ cond b 1 0 + k
       by_test true k = omega arith
       by_test false k = omega arith
 

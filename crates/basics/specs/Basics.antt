@@ -2,11 +2,11 @@
 use Rattle.std.specs.Prelude.{ℕ, zero, suc, ◌+◌, Bool, true, false, not, ◌&&◌, cond, List, [], ◌∷◌, eqb, leb, ltb}
 use Rattle.std.proofs.Math.Option.{Option, none, some}
 
-infixr 5 if◌then◌else◌
+infixr 5 if'◌then◌else◌
 -- both branches are computed: where one of them is a recursive call that must wait, write `elim test [ true ↦ .. | false ↦ .. ]`
-unfoldable pub if◌then◌else◌ {ℓ} : {X : Type ℓ} → Bool → X → X → X
-if◌then◌else◌ true x y = x
-if◌then◌else◌ false x y = y
+unfoldable pub if'◌then◌else◌ {ℓ} : {X : Type ℓ} → Bool → X → X → X
+if'◌then◌else◌ true x y = x
+if'◌then◌else◌ false x y = y
 
 module _ {A : Type 0} where
   -- some element passes
@@ -28,12 +28,12 @@ module _ {A : Type 0} where
   -- the elements that pass
   unfoldable pub keep : (A → Bool) → List A → List A
   keep f [] = []
-  keep f (x ∷ xs) = if f x then x ∷ keep f xs else keep f xs
+  keep f (x ∷ xs) = if' f x then x ∷ keep f xs else keep f xs
 
   -- how many elements pass
   unfoldable pub how_many : (A → Bool) → List A → ℕ
   how_many f [] = 0
-  how_many f (x ∷ xs) = if f x then suc (how_many f xs) else how_many f xs
+  how_many f (x ∷ xs) = if' f x then suc (how_many f xs) else how_many f xs
 
   -- the first that passes
   unfoldable pub first : (A → Bool) → List A → Option A
@@ -43,7 +43,7 @@ module _ {A : Type 0} where
   -- the last that passes
   unfoldable pub last : (A → Bool) → List A → Option A
   last f [] = none
-  last f (x ∷ xs) = elim (last f xs) [ some y ↦ some y | none ↦ if f x then some x else none ]
+  last f (x ∷ xs) = elim (last f xs) [ some y ↦ some y | none ↦ if' f x then some x else none ]
 
   -- it has no element
   unfoldable pub is_empty : List A → Bool
@@ -91,7 +91,7 @@ from n (suc k) = n ∷ from (suc n) k
 -- x before the first number that is not below it
 unfoldable pub inserted : ℕ → List ℕ → List ℕ
 inserted x [] = x ∷ []
-inserted x (y ∷ ys) = if leb x y then x ∷ y ∷ ys else y ∷ inserted x ys
+inserted x (y ∷ ys) = if' leb x y then x ∷ y ∷ ys else y ∷ inserted x ys
 
 -- the numbers by rising size, each as often as it stands
 unfoldable pub sorted : List ℕ → List ℕ
@@ -104,5 +104,5 @@ rank_in xs x = how_many (λ y. ltb y x) xs
 
 -- opens all of this module: `unfolding basics`
 unfoldable pub basics : ℕ
-unfolding if◌then◌else◌ any all paired keep how_many first last is_empty is_some sum every is_in distinct from inserted sorted
+unfolding if'◌then◌else◌ any all paired keep how_many first last is_empty is_some sum every is_in distinct from inserted sorted
 basics = 0

@@ -4,7 +4,7 @@ use Rattle.basics.proofs.Kit.{◌≡◌, refl, sym, ap, ◌∙◌, true, false, 
 use Rattle.basics.proofs.Kit.{le-leb, leb-true, arith}
 use Rattle.basics.proofs.Facts.{by, by-option, never, clash}
 use Rattle.basics.proofs.Elements.{some_eq, all_drop}
-use Rattle.basics.specs.Basics.{if◌then◌else◌}
+use Rattle.basics.specs.Basics.{if'◌then◌else◌}
 use Rattle.block_forms.specs.Limits.{page_head_size, record_space, entries_per_block, block_size}
 use Rattle.block_bits.specs.Bits.{bits_in, field}
 use Rattle.block_bits.specs.Fields.{get_all, widths, values, total, Fit}
@@ -41,11 +41,11 @@ encode_bytes b = block_bytes (block_fields b)
 
 module _ (xs : List ℕ) (b : Block) where
   pub spelled_yes : same (encode_block b) xs ≡ true → spelled_by xs b ≡ b
-  unfolding spelled_by if◌then◌else◌
+  unfolding spelled_by if'◌then◌else◌
   spelled_yes s = rw s
 
   pub spelled_no : same (encode_block b) xs ≡ false → spelled_by xs b ≡ malformed
-  unfolding spelled_by if◌then◌else◌
+  unfolding spelled_by if'◌then◌else◌
   spelled_no s = rw s
 
 spells_itself : (b : Block) → spelled_by (encode_block b) b ≡ b
@@ -169,7 +169,7 @@ module _ (t l : ℕ) (ts : List Tuple) (fit : PageFits t l ts) where
 -- ---- one reading
 
 pub decode_encode : DecodeOfEncode
-unfolding decode_block header_in page_in page_spelled directory_in if◌then◌else◌
+unfolding decode_block header_in page_in page_spelled directory_in if'◌then◌else◌
 decode_encode malformed r = absurd r
 decode_encode (header h) r = rw (header_kind h r, header_back h r) (spells_itself (header h))
 decode_encode (page t l ts) r =
@@ -249,7 +249,7 @@ read_page xs g =
     rw h (read_spelled xs b fits (rw h at g)))
 
 read_directory : (xs : List ℕ) → Reads xs (directory_in xs)
-unfolding directory_in directory_level if◌then◌else◌
+unfolding directory_in directory_level if'◌then◌else◌
 read_directory xs g =
     let n = directory_count xs in
     let es = read_entries xs 64 n in
@@ -262,7 +262,7 @@ read_directory xs g =
     (λ h. absurd (g (rw h)))
 
 decode_read : (xs : List ℕ) → Reads xs (decode_block xs)
-unfolding decode_block if◌then◌else◌
+unfolding decode_block if'◌then◌else◌
 decode_read xs g =
     by (eqb (kind xs) 1) (λ a. rw a (read_header_lem xs (rw a at g)))
     (λ a. by (eqb (kind xs) 2) (λ b. rw (a, b) (read_page xs (rw (a, b) at g)))

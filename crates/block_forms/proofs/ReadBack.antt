@@ -1,7 +1,7 @@
 -- Records that are spelled are read back; the record of a tuple.
 use Rattle.basics.proofs.Kit.{◌≡◌, refl, Bool, true, false, some, List, [], ◌∷◌, ◌++◌, append_assoc, ℕ, ◌+◌, ◌*◌, ◌%◌, ◌≤◌, ◌<◌, ◌/◌, ltb, length, take, drop, get_or, length-append}
 use Rattle.basics.proofs.Kit.{take-append_seam, drop_at, le-leb, lt-ltb, le-ltb, lt-leb, arith}
-use Rattle.basics.specs.Basics.{if◌then◌else◌, one_if}
+use Rattle.basics.specs.Basics.{if'◌then◌else◌, one_if}
 use Rattle.block_forms.specs.Limits.{payload_limit, record_head, mark_value, committed_value, statement_limit}
 use Rattle.block_forms.specs.Numbers.{be4, num4}
 use Rattle.block_forms.specs.Tuple.{Owner, committed, tentative, Tuple, owner_size, size, OwnerFits, Fits, AllFit}
@@ -47,7 +47,7 @@ flags_tentative t s true n h = lt-ltb (0 + (mark_value + n)) committed_value (om
 flags_tentative t s false n h = lt-ltb (0 + (0 + n)) committed_value (omega arith)
 
 pub flags_owner : (o : Owner) (m : Bool) (n : ℕ) → n ≤ payload_limit → OwnerFits o → read_owner (flags_of o m n) (owner_word o) ≡ o
-unfolding read_owner owner_word if◌then◌else◌
+unfolding read_owner owner_word if'◌then◌else◌
 flags_owner committed m n h f = rw (flags_committed m n)
 flags_owner (tentative t s) m n h f =
     let a : (t * statement_limit + s) / statement_limit ≡ t = omega arith in
@@ -62,7 +62,7 @@ tuple k n o m p = record { key = k; number = n; owner = o; mark = m; payload = p
 
 read_fields : (k n : ℕ) (o : Owner) (m : Bool) (p rest : List ℕ) → k < 4294967296 → n < 4294967296 → OwnerFits o → length p ≤ payload_limit
     → read_tuple (record_bytes (tuple k n o m p) ++ rest) ≡ tuple k n o m p
-unfolding read_tuple record_bytes be4 num4 owner_bytes owner_word owner_size read_owner if◌then◌else◌
+unfolding read_tuple record_bytes be4 num4 owner_bytes owner_word owner_size read_owner if'◌then◌else◌
 read_fields k n committed m p rest hk hn ho hp =
     let a = four k hk in
     let b = four n hn in
@@ -81,7 +81,7 @@ read_fields k n (tentative t s) m p rest hk hn ho hp =
     rw (flags_tentative t s m (length p) hp, g) (λ i. record { key = a i; number = b i; owner = tentative (g1 i) (g2 i); mark = d i; payload = q i })
 
 record_takes : (k n : ℕ) (o : Owner) (m : Bool) (p rest : List ℕ) → length p ≤ payload_limit → record_length (record_bytes (tuple k n o m p) ++ rest) ≡ size (tuple k n o m p)
-unfolding record_length record_bytes be4 owner_size size if◌then◌else◌
+unfolding record_length record_bytes be4 owner_size size if'◌then◌else◌
 record_takes k n committed m p rest hp = rw (flags_committed m (length p), flags_length committed m (length p) hp)
 record_takes k n (tentative t s) m p rest hp = rw (flags_tentative t s m (length p) hp, flags_length (tentative t s) m (length p) hp)
 
@@ -107,7 +107,7 @@ module _ (x : Tuple) (rest : List ℕ) (fit : Fits x) where
   read_record = read_fields x.key x.number x.owner x.mark x.payload rest fit.key fit.number fit.owner fit.payload
 
 pub read_records : (ts : List Tuple) (rest : List ℕ) → AllFit ts → read_tuples (length ts) (records ts ++ rest) ≡ some ts
-unfolding read_tuples records if◌then◌else◌
+unfolding read_tuples records if'◌then◌else◌
 read_records [] rest fit = refl
 read_records (x ∷ ts) rest fit =
     let R = records ts ++ rest in

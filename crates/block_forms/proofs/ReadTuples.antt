@@ -1,6 +1,6 @@
 -- The tuples that are read from bytes: their sizes and ranges.
 use Rattle.basics.proofs.Kit.{◌≡◌, refl, true, ◌&&◌, some, none, List, [], ◌∷◌, ℕ, suc, ◌+◌, ◌%◌, ◌≤◌, ◌<◌, zero, leb, ltb, length, drop, get_or, length-take, length-drop, leb-true, arith}
-use Rattle.basics.specs.Basics.{if◌then◌else◌, sum}
+use Rattle.basics.specs.Basics.{if'◌then◌else◌, sum}
 use Rattle.basics.proofs.Facts.{by, by-option, never, and_true}
 use Rattle.basics.proofs.Elements.{all_drop, all_take}
 use Rattle.block_forms.specs.Limits.{payload_limit, record_head, owner_width, mark_value, committed_value}
@@ -12,7 +12,7 @@ use Rattle.block_forms.proofs.Spelled.{bytes_at}
 
 -- four bytes more if tentative
 abbrev pub owner_part : ℕ → ℕ
-owner_part f = if ltb f committed_value then owner_width else 0
+owner_part f = if' ltb f committed_value then owner_width else 0
 
 pub whole_parts : (ys : List ℕ) → is_record ys ≡ true → (record_head ≤ length ys) × ((get_or ys 8 0 % mark_value ≤ payload_limit) × (record_length ys ≤ length ys))
 unfolding is_record
@@ -25,11 +25,11 @@ whole_parts ys e =
 -- ---- one tuple
 
 pub owner_size_lem : (f w : ℕ) → owner_size (read_owner f w) ≡ owner_part f
-unfolding owner_size read_owner if◌then◌else◌
+unfolding owner_size read_owner if'◌then◌else◌
 owner_size_lem f w = by (ltb f committed_value) (λ h. rw h) (λ h. rw h)
 
 pub owner_fits : (f v : ℕ) → v < 4294967296 → OwnerFits (read_owner f v)
-unfolding read_owner if◌then◌else◌
+unfolding read_owner if'◌then◌else◌
 owner_fits f v h = by (ltb f committed_value) (λ e. rw e (omega arith, omega arith)) (λ e. rw e tt)
 
 pub owner_same : (o : Owner) → owner_is (owner_as o) ≡ o
@@ -76,7 +76,7 @@ pub record Split (n : ℕ) (xs : List ℕ) (ts : List Tuple) : Type 0 where
   pub is : ts ≡ read_tuple xs ∷ others
 
 pub split : (n : ℕ) (xs : List ℕ) (ts : List Tuple) → read_tuples (suc n) xs ≡ some ts → Split n xs ts
-unfolding read_tuples if◌then◌else◌
+unfolding read_tuples if'◌then◌else◌
 split n xs ts e =
     by (is_record xs)
     (λ w. by-option (read_tuples n (drop (record_length xs) xs))

@@ -2,7 +2,7 @@
 -- bytes spell it, so that counts, sums and stray bits are all tested by one comparison.
 use Rattle.std.specs.Prelude.{ℕ, zero, suc, ◌+◌, ◌/◌, ◌%◌, Bool, ◌&&◌, List, [], ◌∷◌, length, get_or, take, drop, ltb, leb, eqb}
 use Rattle.std.proofs.Math.Option.{Option, none, some, map}
-use Rattle.basics.specs.Basics.{if◌then◌else◌}
+use Rattle.basics.specs.Basics.{if'◌then◌else◌}
 use Rattle.block_bits.specs.Bits.{bits_in, field}
 use Rattle.block_forms.specs.Limits.{payload_limit, page_head_size, record_head, mark_value, committed_value, statement_limit, entries_per_block}
 use Rattle.block_forms.specs.Numbers.{num4, same}
@@ -16,7 +16,7 @@ kind xs = field (bits_in xs) 0 4
 
 -- the value, if these bytes spell it
 unfoldable pub spelled_by : List ℕ → Block → Block
-spelled_by xs b = if same (encode_block b) xs then b else malformed
+spelled_by xs b = if' same (encode_block b) xs then b else malformed
 
 -- ---- header
 
@@ -43,7 +43,7 @@ header_in xs = spelled_by xs (header (read_header xs))
 
 -- the owner of a record whose ninth byte is f, and whose next four bytes are the number w
 unfoldable pub read_owner : ℕ → ℕ → Owner
-read_owner f w = if ltb f committed_value then tentative (w / statement_limit) (w % statement_limit) else committed
+read_owner f w = if' ltb f committed_value then tentative (w / statement_limit) (w % statement_limit) else committed
 
 -- the delete mark of a record whose ninth byte is f
 unfoldable pub read_mark : ℕ → Bool
@@ -67,7 +67,7 @@ is_record xs = leb record_head (length xs) && (leb (get_or xs 8 0 % mark_value) 
 -- n records from the front on, each a whole record
 unfoldable pub read_tuples : ℕ → List ℕ → Option (List Tuple)
 read_tuples zero xs = some []
-read_tuples (suc n) xs = if is_record xs then map (λ ts. read_tuple xs ∷ ts) (read_tuples n (drop (record_length xs) xs)) else none
+read_tuples (suc n) xs = if' is_record xs then map (λ ts. read_tuple xs ∷ ts) (read_tuples n (drop (record_length xs) xs)) else none
 
 -- the first n tuples of a page's block
 abbrev pub page_tuples : ℕ → List ℕ → Option (List Tuple)
@@ -116,14 +116,14 @@ directory_level xs = field (bits_in xs) 13 32
 -- the directory that these bytes spell; more entries would not be in the block
 unfoldable pub directory_in : List ℕ → Block
 directory_in xs =
-    if leb (directory_count xs) entries_per_block
+    if' leb (directory_count xs) entries_per_block
     then spelled_by xs (directory (directory_level xs) (read_entries xs 64 (directory_count xs)))
     else malformed
 
 -- 1 header, 2 page, 3 directory, any other is refused
 unfoldable pub decode_block : List ℕ → Block
 decode_block xs =
-    if eqb (kind xs) 1 then header_in xs
-    else if eqb (kind xs) 2 then page_in xs
-    else if eqb (kind xs) 3 then directory_in xs
+    if' eqb (kind xs) 1 then header_in xs
+    else if' eqb (kind xs) 2 then page_in xs
+    else if' eqb (kind xs) 3 then directory_in xs
     else malformed

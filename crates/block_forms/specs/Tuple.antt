@@ -1,6 +1,6 @@
 -- A tuple and its size.
 use Rattle.std.specs.Prelude.{ℕ, ◌+◌, ◌<◌, ◌≤◌, Bool, true, false, List, length}
-use Rattle.basics.specs.Basics.{if◌then◌else◌, sum, AllOf}
+use Rattle.basics.specs.Basics.{if'◌then◌else◌, sum, AllOf}
 use Rattle.block_forms.specs.Limits.{payload_limit, record_head, owner_width, transaction_limit, statement_limit}
 
 -- the committed mark; a tentative tuple has its transaction and statement instead
@@ -28,7 +28,7 @@ owner_size (tentative t s) = owner_width
 
 -- the size of a record with a payload of n bytes: 9 bytes plus the payload, plus 4 if tentative
 abbrev pub record_size : Bool → ℕ → ℕ
-record_size t n = record_head + (if t then owner_width else 0) + n
+record_size t n = record_head + (if' t then owner_width else 0) + n
 
 -- a tuple's size is that of its record
 unfoldable pub size : Tuple → ℕ

@@ -3,7 +3,7 @@ use Rattle.basics.proofs.Kit.{◌≡◌, ap, ◌∙◌, subst, ⊎_elim, true, f
 use types.Run.{OneOf}
 use denote.Enum.Declared.{tag_of}
 use Rattle.basics.proofs.Facts.{by-option, clash}
-use Rattle.basics.specs.Basics.{if◌then◌else◌}
+use Rattle.basics.specs.Basics.{if'◌then◌else◌}
 use Rattle.block_forms.specs.Limits.{entries_per_block}
 use Rattle.block_bits.specs.Bits.{bits_in, field}
 use Rattle.block_forms.specs.Numbers.{same}
@@ -33,12 +33,12 @@ module _ (xs : List ℕ) {h : Header} (e : h ≡ read_header xs) where
 
 module _ (xs : List ℕ) {n : ℕ} (en : n ≡ field (bits_in xs) 4 9) where
   pub directory_many : entries_per_block < n → reading (directory_in xs) ≡ Malformed
-  unfolding directory_in directory_count reading if◌then◌else◌
+  unfolding directory_in directory_count reading if'◌then◌else◌
   directory_many h = rw (← en, lt-leb n entries_per_block h)
 
   module _ {l : ℕ} (el : l ≡ field (bits_in xs) 13 32) (es : List ℕ) (h : n ≤ entries_per_block) (e : take n es ≡ read_entries xs 64 n) where
     here : directory_in xs ≡ spelled_by xs (directory l (take n es))
-    unfolding directory_in directory_count directory_level if◌then◌else◌
+    unfolding directory_in directory_count directory_level if'◌then◌else◌
     here = rw (← en, ← el, le-leb n entries_per_block h, e)
 
     pub directory_yes : length (take n es) ≡ n → same (encode_block (directory l (take n es))) xs ≡ true → reading (directory_in xs) ≡ IsDirectory n l
@@ -73,19 +73,19 @@ module _ (xs : List ℕ) {t n l : ℕ} (et : t ≡ field (bits_in xs) 4 3) (en :
 
 module _ (xs : List ℕ) {k : ℕ} (e : k ≡ field (bits_in xs) 0 4) where
   pub kind_header : k ≡ 1 → decode_block xs ≡ header_in xs
-  unfolding decode_block kind if◌then◌else◌
+  unfolding decode_block kind if'◌then◌else◌
   kind_header h = rw (← e, h)
 
   pub kind_page : k ≡ 2 → decode_block xs ≡ page_in xs
-  unfolding decode_block kind if◌then◌else◌
+  unfolding decode_block kind if'◌then◌else◌
   kind_page h = rw (← e, h)
 
   pub kind_directory : k ≡ 3 → decode_block xs ≡ directory_in xs
-  unfolding decode_block kind if◌then◌else◌
+  unfolding decode_block kind if'◌then◌else◌
   kind_directory h = rw (← e, h)
 
   kind_other : (k ≡ 1 → ⊥) → (k ≡ 2 → ⊥) → (k ≡ 3 → ⊥) → decode_block xs ≡ malformed
-  unfolding decode_block kind if◌then◌else◌
+  unfolding decode_block kind if'◌then◌else◌
   kind_other a b c = rw (← e, ne_eqb k 1 a, ne_eqb k 2 b, ne_eqb k 3 c)
 
   pub reads_other : (k ≡ 1 → ⊥) → (k ≡ 2 → ⊥) → (k ≡ 3 → ⊥) → reading (decode_block xs) ≡ Malformed

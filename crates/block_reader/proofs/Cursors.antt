@@ -1,6 +1,6 @@
 -- What the cursor finds at a place of a block.
 use Rattle.basics.proofs.Kit.{◌≡◌, sym, ap, ◌∙◌, Bool, true, false, List, ℕ, ◌+◌, ◌%◌, ◌≤◌, ◌<◌, ◌-◌, leb, ltb, length, drop, get_or, length-drop, get_or-drop, le-leb, lt-leb, arith}
-use Rattle.basics.specs.Basics.{if◌then◌else◌}
+use Rattle.basics.specs.Basics.{if'◌then◌else◌}
 use Rattle.basics.proofs.Facts.{by}
 use Rattle.block_forms.specs.Limits.{payload_limit, record_head, owner_width, mark_value, committed_value, block_size}
 use Rattle.block_forms.specs.Numbers.{num4}
@@ -17,23 +17,23 @@ abbrev pub flags_at : List ℕ → ℕ → ℕ
 flags_at xs at = get_or xs (at + 8) 0
 
 pub part_small : (f : ℕ) → owner_part f ≤ owner_width
-unfolding if◌then◌else◌
+unfolding if'◌then◌else◌
 part_small f = by (ltb f committed_value) (λ h. rw h (omega arith)) (λ h. rw h (omega arith))
 
 pub part_tentative : (f : ℕ) → ltb f committed_value ≡ true → owner_part f ≡ owner_width
-unfolding if◌then◌else◌
+unfolding if'◌then◌else◌
 part_tentative f h = rw h
 
-pub word_tentative : (f n : ℕ) → ltb f committed_value ≡ true → n ≡ (if ltb f committed_value then n else 0)
-unfolding if◌then◌else◌
+pub word_tentative : (f n : ℕ) → ltb f committed_value ≡ true → n ≡ (if' ltb f committed_value then n else 0)
+unfolding if'◌then◌else◌
 word_tentative f n h = rw h
 
-pub word_committed : (f n : ℕ) → ltb f committed_value ≡ false → 0 ≡ (if ltb f committed_value then n else 0)
-unfolding if◌then◌else◌
+pub word_committed : (f n : ℕ) → ltb f committed_value ≡ false → 0 ≡ (if' ltb f committed_value then n else 0)
+unfolding if'◌then◌else◌
 word_committed f n h = rw h
 
-word_read : (f n : ℕ) → read_owner f (if ltb f committed_value then n else 0) ≡ read_owner f n
-unfolding read_owner if◌then◌else◌
+word_read : (f n : ℕ) → read_owner f (if' ltb f committed_value then n else 0) ≡ read_owner f n
+unfolding read_owner if'◌then◌else◌
 word_read f n = by (ltb f committed_value) (λ h. rw h) (λ h. rw h)
 
 pub taken_at : (xs : List ℕ) (at : ℕ) → record_length (drop at xs) ≡ record_size (ltb (flags_at xs at) committed_value) (flags_at xs at % mark_value)
@@ -48,12 +48,12 @@ module _ (xs : List ℕ) (at : ℕ) (l : length xs ≡ block_size) where
   left = rw (length-drop at xs, l)
 
   pub none_far : block_size - record_head < at → next_at xs at ≡ Bad
-  unfolding next_at is_record if◌then◌else◌
+  unfolding next_at is_record if'◌then◌else◌
   none_far h = rw (left, lt-leb record_head (block_size - at) (omega arith))
 
   module _ (n : at ≤ block_size - record_head) where
     pub none_long : payload_limit < flags_at xs at % mark_value → next_at xs at ≡ Bad
-    unfolding next_at is_record if◌then◌else◌
+    unfolding next_at is_record if'◌then◌else◌
     none_long h = rw (left, le-leb record_head (block_size - at) (omega arith), get_or-drop at xs 8 0, lt-leb (flags_at xs at % mark_value) payload_limit h)
 
     module _ (p : flags_at xs at % mark_value ≤ payload_limit) (e : ℕ) (t : e ≡ record_size (ltb (flags_at xs at) committed_value) (flags_at xs at % mark_value)) where
@@ -62,7 +62,7 @@ module _ (xs : List ℕ) (at : ℕ) (l : length xs ≡ block_size) where
       fits = rw (left, le-leb record_head (block_size - at) (omega arith), get_or-drop at xs 8 0, le-leb (flags_at xs at % mark_value) payload_limit p, taken_at xs at, t)
 
       pub none_short : block_size < at + e → next_at xs at ≡ Bad
-      unfolding next_at if◌then◌else◌
+      unfolding next_at if'◌then◌else◌
       none_short h = rw (fits, lt-leb e (block_size - at) (omega arith))
 
       found_whole : {o : Owner} {mark : Bool} → o ≡ owner_as (read_owner (flags_at xs at) (num4 xs (at + record_head))) → mark ≡ read_mark (flags_at xs at) → at + e ≤ block_size
@@ -76,10 +76,10 @@ module _ (xs : List ℕ) (at : ℕ) (l : length xs ≡ block_size) where
             len = flags_at xs at % mark_value;
           })
           (record { at = at + e })
-      unfolding next_at record_at if◌then◌else◌
+      unfolding next_at record_at if'◌then◌else◌
       found_whole eo em h = rw (fits, le-leb e (block_size - at) (omega arith), ← eo, ← em, start_at (flags_at xs at) (num4 xs (at + record_head)) at, taken_at xs at, t)
 
-      pub found_as : {k n w : ℕ} {o : Owner} {mark : Bool} → k ≡ num4 xs at → n ≡ num4 xs (at + 4) → w ≡ (if ltb (flags_at xs at) committed_value then num4 xs (at + record_head) else 0)
+      pub found_as : {k n w : ℕ} {o : Owner} {mark : Bool} → k ≡ num4 xs at → n ≡ num4 xs (at + 4) → w ≡ (if' ltb (flags_at xs at) committed_value then num4 xs (at + record_head) else 0)
           → o ≡ owner_as (read_owner (flags_at xs at) w) → mark ≡ read_mark (flags_at xs at) → at + e ≤ block_size
           → Found
           (record {

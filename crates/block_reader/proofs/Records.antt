@@ -2,7 +2,7 @@
 use Rattle.basics.proofs.Kit.{◌≡◌, refl, true, false, List, ℕ, ◌+◌, ◌%◌, ◌≤◌, add-zero, add_assoc, length, drop, length-take, length-drop, drop-drop, get_or-drop, arith}
 use Rattle.basics.proofs.Facts.{by}
 use Rattle.basics.proofs.Elements.{all_drop}
-use Rattle.basics.specs.Basics.{if◌then◌else◌}
+use Rattle.basics.specs.Basics.{if'◌then◌else◌}
 use Rattle.block_forms.specs.Limits.{payload_limit, record_head, mark_value, block_size}
 use Rattle.block_forms.specs.Numbers.{num4}
 use Rattle.block_forms.specs.Tuple.{owner_size, Byte, AllBytes, OwnerFits, Fits}
@@ -62,7 +62,7 @@ module _ (xs : List ℕ) (at : ℕ) where
     pub ends : c.at ≤ length xs
 
   pub found_is : {r : Record} {c : Cursor} → at ≤ length xs → Found r c ≡ next_at xs at → Found-is r c
-  unfolding next_at if◌then◌else◌
+  unfolding next_at if'◌then◌else◌
   found_is {r} {c} room e =
       by (is_record (drop at xs))
       (λ w.
@@ -98,7 +98,7 @@ module _ (xs : List ℕ) (at : ℕ) where
   found_appends l b g = record { room = omega (arith, g.takes, g.next, g.ends); inside = g.inside; limit = g.limit; owner = found_fits b g }
 
   pub bad_is : Bad ≡ next_at xs at → is_record (drop at xs) ≡ false
-  unfolding next_at if◌then◌else◌
+  unfolding next_at if'◌then◌else◌
   bad_is e =
       by (is_record (drop at xs))
       (λ w. let k : Bad ≡ Found (record_at xs at) (record { at = at + record_length (drop at xs) }) = rw w at e in let z : ◌≡◌ {A = ℕ} 0 1 = cc in absurd (omega arith))

@@ -3,7 +3,7 @@ use Rattle.basics.proofs.Kit.{◌≡◌, refl, sym, ap, ◌∙◌, some, none, O
 use Rattle.basics.proofs.Kit.{length-append, drop-drop, take_at, drop_at, drop_of_length-le, arith}
 use Rattle.basics.proofs.Facts.{by-option, never}
 use Rattle.basics.proofs.Lists.{behind_none, behind_two}
-use Rattle.basics.specs.Basics.{if◌then◌else◌}
+use Rattle.basics.specs.Basics.{if'◌then◌else◌}
 use Rattle.block_forms.specs.Limits.{page_head_size, block_size}
 use Rattle.block_forms.specs.Tuple.{Tuple}
 use Rattle.block_forms.specs.Block.{page, PageBlock, as_page}
@@ -39,14 +39,14 @@ passed_start xs n k =
 module _ {xs : List ℕ} {n at i : ℕ} {done : List Tuple} (p : Passed xs n at i done) where
   -- a record is missing
   pub passed_bad : i < n → Bad ≡ next_at xs at → page_tuples n xs ≡ none
-  unfolding read_tuples if◌then◌else◌
+  unfolding read_tuples if'◌then◌else◌
   passed_bad h b =
       let e : n - i ≡ suc (n - (i + 1)) = omega arith in
       p.rest ∙ rw (e, bad_is xs at b)
 
   -- one record more
   pub passed_more : i < n → {r : Record} {c : Cursor} → Found-is xs at r c → Passed xs n c.at (i + 1) (done ++ (tuple_of r (payload_in xs r) ∷ []))
-  unfolding read_tuples if◌then◌else◌
+  unfolding read_tuples if'◌then◌else◌
   passed_more h {r} f =
       let x = read_tuple (drop at xs) in
       let e : n - i ≡ suc (n - (i + 1)) = omega arith in

@@ -1,6 +1,6 @@
 -- What reading a block answers, and what the cursor finds in a page.
 use Rattle.std.specs.Prelude.{ℕ, ◌+◌, ◌%◌, Bool, List, length, get_or, drop}
-use Rattle.basics.specs.Basics.{if◌then◌else◌, is_some}
+use Rattle.basics.specs.Basics.{if'◌then◌else◌, is_some}
 use Rattle.block_forms.specs.Limits.{record_head, mark_value}
 use Rattle.block_forms.specs.Numbers.{num4}
 use Rattle.block_forms.specs.Tuple.{owner_size}
@@ -29,7 +29,7 @@ record_at xs at =
 
 -- the record at a cursor's place, with the cursor behind it
 unfoldable pub next_at : List ℕ → ℕ → Next
-next_at xs at = if is_record (drop at xs) then Found (record_at xs at) (record { at = at + record_length (drop at xs) }) else Bad
+next_at xs at = if' is_record (drop at xs) then Found (record_at xs at) (record { at = at + record_length (drop at xs) }) else Bad
 
 -- a page block
 abbrev pub is_page : Block → Bool

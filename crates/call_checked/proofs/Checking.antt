@@ -1,6 +1,6 @@
 -- The tests of the calendar one after the other, and the call that comes behind them.
 use Rattle.basics.proofs.Kit.{◌≡◌, sym, ap, ◌∙◌, subst, fun_ext, Bool, true, false, not, List, [], ◌∷◌, ℕ, ◌≤◌, ◌<◌, eqb, ltb, lt-ltb, le-ltb, eq-eqb, ne_eqb, arith}
-use Rattle.basics.specs.Basics.{if◌then◌else◌}
+use Rattle.basics.specs.Basics.{if'◌then◌else◌}
 use Rattle.basics.proofs.Facts.{by}
 use Rattle.calendar.specs.Calendar.{minutes, rows_of, is_calendar, open_throughout}
 use Rattle.model.specs.State.{Store, Outcome}
@@ -71,8 +71,8 @@ module _ (t k : ℕ) (bs hours : List ℕ) where
         (fun_ext (λ s. sym (unless_pass (hours_tests t k bs hours) s (insert_call tx t k bs s) numbered (sym ev ∙ z)))) a
 
     -- one holds: it is refused, by 4 where there is no store
-    pub refuses : (room : Bool) → (v ≡ 0 → ⊥) → {r : Answer} → r ≡ Refused (if holds_store m then v else 4) → Answers (with_room room (insert_checked_call tx t k bs hours)) m r m
-    unfolding insert_checked_call if◌then◌else◌
+    pub refuses : (room : Bool) → (v ≡ 0 → ⊥) → {r : Answer} → r ≡ Refused (if' holds_store m then v else 4) → Answers (with_room room (insert_checked_call tx t k bs hours)) m r m
+    unfolding insert_checked_call if'◌then◌else◌
     refuses room nz q =
         let s = store_of (flat_of m) in
         let call = insert_checked_call tx t k bs hours in

@@ -1,6 +1,6 @@
 // The checked insert: a booking that the calendar of its dish allows, which is then an insert like any other.
 ghost use Rattle.std.specs.Prelude.{◌≡◌};
-ghost use Rattle.basics.specs.Basics.{if◌then◌else◌};
+ghost use Rattle.basics.specs.Basics.{if'◌then◌else◌};
 ghost use Rattle.model.specs.Calls.{with_room};
 ghost use Rattle.model.specs.Checked.{hours_tests, insert_checked_call};
 ghost use Rattle.memory_layout.specs.Store.{holds_store};
@@ -33,7 +33,7 @@ fn hours_refusal(table: u64, key: u32, payload: &[u8], hours: &[u8]) -> u64
 // Refuses by 4 if the memory holds no store, which comes first of all tests, else by v. It is asked only where another test refuses: insert
 // asks it too.
 fn refused(m: &[u8], v: u64) -> Answer
-    ensures { result ≡ Refused (if holds_store m.now then v else 4) }
+    ensures { result ≡ Refused (if' holds_store m.now then v else 4) }
 {
     if !memory_layout::holds_store(m) {
         return Answer::Refused(4);

@@ -2,7 +2,7 @@
 use Rattle.block_forms.specs.Limits.{block_limit}
 use Rattle.basics.proofs.Kit.{◌≡◌, refl, sym, ap, ◌∙◌, true, false, some, List, [], ◌∷◌, ◌++◌, map, ℕ, ◌+◌, ◌≤◌, ◌<◌, add-one, eqb, length, take, get_or, length-map, take_all, take-suc}
 use Rattle.basics.proofs.Kit.{length-take-le, lt-ltb, le-ltb, eq-eqb, ne_eqb, arith}
-use Rattle.basics.specs.Basics.{if◌then◌else◌, all}
+use Rattle.basics.specs.Basics.{if'◌then◌else◌, all}
 use Rattle.basics.proofs.Lists.{map_append}
 use Rattle.model.specs.State.{Held, Page, Checkpoint, running, Store}
 use Rattle.model.specs.Rules.{freeze}
@@ -167,12 +167,12 @@ module _ (f : Flat) where
   S = store_of f
 
   pub begin_17 : is_running (store_of f).checkpoint ≡ true → begin_call (store_of f) ≡ gives (model.refused 17) (store_of f)
-  unfolding begin_call unless if◌then◌else◌
+  unfolding begin_call unless if'◌then◌else◌
   begin_17 e = rw e
 
   module _ (h17 : is_running (store_of f).checkpoint ≡ false) where
     pub begin_19 : f.head.level ≡ 4294967295 → begin_call (store_of f) ≡ gives (model.refused 19) (store_of f)
-    unfolding begin_call unless if◌then◌else◌
+    unfolding begin_call unless if'◌then◌else◌
     begin_19 e = rw (h17, eq-eqb S.level 4294967295 (level_is f ∙ e))
 
     module _ (h19 : f.head.level ≡ 4294967295 → ⊥) where
@@ -180,12 +180,12 @@ module _ (f : Flat) where
       level_low = ne_eqb S.level 4294967295 (λ q. h19 (sym (level_is f) ∙ q))
 
       pub begin_20 : free_count (store_of f) < blocks_needed (pages_in f) → begin_call (store_of f) ≡ gives (model.refused 20) (store_of f)
-      unfolding begin_call unless if◌then◌else◌
+      unfolding begin_call unless if'◌then◌else◌
       begin_20 l = rw (h17, level_low, lt-ltb (free_count S) (blocks_needed S.pages) (omega (arith, l, ap blocks_needed (store_pages f))))
 
       pub begin_done : blocks_needed (pages_in f) ≤ free_count (store_of f)
           → begin_call (store_of f) ≡ gives (model.count (blocks_needed (pages_in f) + 1)) (begun (store_of f))
-      unfolding begin_call unless if◌then◌else◌
+      unfolding begin_call unless if'◌then◌else◌
       begin_done l =
           rw (h17, level_low, le-ltb (free_count S) (blocks_needed S.pages) (omega (arith, l, ap blocks_needed (store_pages f))))
           (ap (λ (ps : List Page). gives (model.count (blocks_needed ps + 1)) (begun S)) (store_pages f))

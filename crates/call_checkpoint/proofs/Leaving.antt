@@ -2,7 +2,7 @@
 use Rattle.block_forms.specs.Limits.{block_limit}
 use Rattle.basics.proofs.Kit.{◌≡◌, refl, sym, ap, ◌∙◌, subst, fun_ext, Bool, true, false, not, ◌||◌, some, List, [], ◌∷◌, ◌++◌, ℕ, suc, ◌+◌, ◌≤◌, ◌<◌, ◌-◌, add-one, leb, eqb, length, drop}
 use Rattle.basics.proofs.Kit.{get_or, set, length-append, drop_of_length-le, List·getD-append, get_or-append-add, eqb-true, eq-eqb, ne_eqb, eqb-false, not-true, arith}
-use Rattle.basics.specs.Basics.{if◌then◌else◌, any, is_in}
+use Rattle.basics.specs.Basics.{if'◌then◌else◌, any, is_in}
 use Rattle.basics.proofs.Facts.{by}
 use Rattle.basics.proofs.Iterations.{drop_iteration}
 use Rattle.model.specs.State.{Page, idle, running, Store}
@@ -42,11 +42,11 @@ took {m} {m1} {m2} b h e x y =
 
 module _ (e : ℕ) (es : List ℕ) where
   zero_here : e ≡ 0 → first_zero (e ∷ es) ≡ 0
-  unfolding first_zero if◌then◌else◌
+  unfolding first_zero if'◌then◌else◌
   zero_here q = rw (eq-eqb (e) 0 q)
 
   zero_on : (e ≡ 0 → ⊥) → first_zero (e ∷ es) ≡ suc (first_zero es)
-  unfolding first_zero if◌then◌else◌
+  unfolding first_zero if'◌then◌else◌
   zero_on q = rw (ne_eqb (e) 0 q)
 
 pub named_start : (ws : List ℕ) → NamedBefore ws 0
@@ -77,7 +77,7 @@ named_four {ws} {i} k h e =
     named_iteration k3 (i + 4) (omega arith) (omega arith) t.1.1.1.0
 
 fill_at : (b : ℕ) (es : List ℕ) → first_zero es < length es → set es (first_zero es) b ≡ fill b es
-unfolding fill if◌then◌else◌
+unfolding fill if'◌then◌else◌
 fill_at b [] h = absurd (omega arith)
 fill_at b (e ∷ es) h =
     by (eqb e 0)
@@ -85,7 +85,7 @@ fill_at b (e ∷ es) h =
     (λ t. let n = zero_on e es (eqb-false e 0 t) in rw (n, t) (ap (λ (z : List ℕ). e ∷ z) (fill_at b es (omega (arith, h, n)))))
 
 fill_none : (b : ℕ) (es : List ℕ) → length es ≤ first_zero es → es ≡ fill b es
-unfolding fill if◌then◌else◌
+unfolding fill if'◌then◌else◌
 fill_none b [] h = refl
 fill_none b (e ∷ es) h =
     by (eqb e 0)
@@ -113,7 +113,7 @@ module _ {m : List ℕ} (b i : ℕ) (e : i ≡ first_zero (flat_of m).named) whe
 -- ---- the checkpoint runs on
 
 runs_same : (on : Bool) (l n n' : ℕ) (es es' ds ds' : List ℕ) → is_running (checkpoint_of on l n es ds) ≡ true → is_running (checkpoint_of on l n' es' ds') ≡ true
-unfolding checkpoint_of is_running if◌then◌else◌
+unfolding checkpoint_of is_running if'◌then◌else◌
 runs_same on l n n' es es' ds ds' e = by (not on || leb 4294967295 l) (λ h. rw h (rw h at e)) (λ h. rw h refl)
 
 still : (f g : Flat) → is_running (store_of f).checkpoint ≡ true → g.head.running ≡ f.head.running → g.head.level ≡ f.head.level → is_running (store_of g).checkpoint ≡ true
@@ -272,7 +272,7 @@ landed_head h =
 
 store_is_header : (f : Flat) (u : ℕ → Bool) → store_of (with_head (with_used f u) (landed_head f.head))
     ≡ with_progress (store_of f) ((store_of f).level + 1) (store_of f).pages u (store_of f).taken idle
-unfolding with_progress store_of checkpoint_of if◌then◌else◌
+unfolding with_progress store_of checkpoint_of if'◌then◌else◌
 store_is_header f u = refl
 
 header_kept : (f : Flat) (u : ℕ → Bool) → ((c : ℕ) → u c ≡ (is_in c (named_in f) || false))

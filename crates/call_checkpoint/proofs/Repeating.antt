@@ -1,7 +1,7 @@
 -- Run: steps in turn.
 use Rattle.block_forms.specs.Limits.{block_size}
 use Rattle.basics.proofs.Kit.{◌≡◌, refl, sym, ap, ◌∙◌, subst, true, false, some, List, [], ◌∷◌, ◌++◌, ℕ, suc, ◌*◌, ◌≤◌, ◌<◌, ◌-◌, min, length, eq-eqb, ne_eqb, arith}
-use Rattle.basics.specs.Basics.{if◌then◌else◌}
+use Rattle.basics.specs.Basics.{if'◌then◌else◌}
 use Rattle.model.specs.State.{Store, Write, Outcome}
 use Rattle.model.specs.Transactions.{gives, unless}
 use Rattle.model.specs.Checkpoint.{is_running, left, step_at, bad_image, step_call, in_turn, run_call}
@@ -29,17 +29,17 @@ image_append (w ∷ ws) vs img = image_append ws vs _
 
 module _ (limit len : ℕ) (s : Store) where
   pub run_5 : (len ≡ block_size * s.blocks → ⊥) → run_call limit len s ≡ gives (model.refused 5) s
-  unfolding run_call bad_image unless if◌then◌else◌
+  unfolding run_call bad_image unless if'◌then◌else◌
   run_5 h = rw (ne_eqb len (block_size * s.blocks) h)
 
   module _ (e : len ≡ block_size * s.blocks) where
     pub run_18 : is_running s.checkpoint ≡ false → run_call limit len s ≡ gives (model.refused 18) s
-    unfolding run_call bad_image unless if◌then◌else◌
+    unfolding run_call bad_image unless if'◌then◌else◌
     run_18 h = rw (eq-eqb len (block_size * s.blocks) e, h)
 
     run_at : is_running s.checkpoint ≡ true
         → run_call limit len s ≡ record { answer = model.count (min limit (left s)); store = (in_turn (min limit (left s)) s).store; writes = (in_turn (min limit (left s)) s).writes }
-    unfolding run_call bad_image unless if◌then◌else◌
+    unfolding run_call bad_image unless if'◌then◌else◌
     run_at h = rw (eq-eqb len (block_size * s.blocks) e, h)
 
 -- ---- turn by turn

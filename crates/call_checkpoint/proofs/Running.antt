@@ -1,6 +1,6 @@
 -- Whether a checkpoint runs, by the flat lists of the memory, and how many stores are left.
 use Rattle.basics.proofs.Kit.{◌≡◌, refl, sym, ap, ◌∙◌, ⊎_elim, true, false, List, ◌+◌, ◌≤◌, ◌<◌, le-leb, lt-leb, arith}
-use Rattle.basics.specs.Basics.{if◌then◌else◌}
+use Rattle.basics.specs.Basics.{if'◌then◌else◌}
 use Rattle.basics.proofs.Facts.{by, lie}
 use Rattle.basics.proofs.Tabs.{lt_or_ge}
 use Rattle.model.specs.State.{Page, Checkpoint, idle, running}
@@ -16,16 +16,16 @@ idle_none (running n es ds) ps e = lie (sym e)
 
 module _ (f : Flat) where
   pub not_on : f.head.running ≡ false → false ≡ is_running (store_of f).checkpoint
-  unfolding store_of checkpoint_of is_running if◌then◌else◌
+  unfolding store_of checkpoint_of is_running if'◌then◌else◌
   not_on e = sym (rw e refl)
 
   module _ (on : f.head.running ≡ true) where
     pub last_level : 4294967295 ≤ f.head.level → false ≡ is_running (store_of f).checkpoint
-    unfolding store_of checkpoint_of is_running if◌then◌else◌
+    unfolding store_of checkpoint_of is_running if'◌then◌else◌
     last_level h = sym (rw (on, le-leb 4294967295 f.head.level h) refl)
 
     pub runs_is : f.head.level < 4294967295 → (store_of f).checkpoint ≡ running f.head.begun f.named f.directories
-    unfolding store_of checkpoint_of if◌then◌else◌
+    unfolding store_of checkpoint_of if'◌then◌else◌
     runs_is h = rw (on, lt-leb 4294967295 f.head.level h) refl
 
     pub runs_on : f.head.level < 4294967295 → true ≡ is_running (store_of f).checkpoint

@@ -2,7 +2,7 @@
 use Rattle.block_forms.specs.Limits.{block_size}
 use Rattle.basics.proofs.Kit.{◌≡◌, refl, sym, ap, ◌∙◌, subst, Bool, true, false, some, none, Option, List, [], ◌∷◌, ◌++◌, ℕ, suc, ◌+◌, ◌*◌, ◌≤◌, ◌<◌, ◌-◌, add-one, eqb, ltb, length, take}
 use Rattle.basics.proofs.Kit.{drop, drop-drop, drop_of_length-le, lt-ltb, le-ltb, eqb-true, ne_eqb, eqb-false, arith}
-use Rattle.basics.specs.Basics.{if◌then◌else◌, how_many, first}
+use Rattle.basics.specs.Basics.{if'◌then◌else◌, how_many, first}
 use Rattle.basics.proofs.Facts.{by, lie}
 use Rattle.block_forms.specs.Block.{Block, header, page, directory, encode_block}
 use Rattle.image.specs.Stages.{directories_for}
@@ -71,21 +71,21 @@ module _ (s : Store) (n : ℕ) (es ds : List ℕ) (e : s.checkpoint ≡ running 
   step_page q f = step_is ∙ ap (λ (o : Option Page). step_of o n es ds s) f
 
   module _ (f : first is_frozen s.pages ≡ none) where
-    rest_is : step_at s.checkpoint s ≡ (if ltb (length ds) (directories_for (length es)) then store_directory n es ds s else store_header n es ds s)
+    rest_is : step_at s.checkpoint s ≡ (if' ltb (length ds) (directories_for (length es)) then store_directory n es ds s else store_header n es ds s)
     unfolding step_of
     rest_is = step_is ∙ ap (λ (o : Option Page). step_of o n es ds s) f
 
     pub step_directory : length ds < directories_for (length es)
         → step_at s.checkpoint s ≡ made (allocate s) (directory (suc s.level) (block_entries (length ds) es)) (directory_stored (allocate s) n es ds s)
-    unfolding if◌then◌else◌ store_directory
+    unfolding if'◌then◌else◌ store_directory
     step_directory h =
-        rest_is ∙ ap (λ (b : Bool). if b then store_directory n es ds s else store_header n es ds s) (lt-ltb (length ds) (directories_for (length es)) h)
+        rest_is ∙ ap (λ (b : Bool). if' b then store_directory n es ds s else store_header n es ds s) (lt-ltb (length ds) (directories_for (length es)) h)
 
     pub step_header : directories_for (length es) ≤ length ds
         → step_at s.checkpoint s ≡ made 0 (header (header_for s (suc s.level) n (length es) ds)) (header_stored es ds s)
-    unfolding if◌then◌else◌ store_header
+    unfolding if'◌then◌else◌ store_header
     step_header h =
-        rest_is ∙ ap (λ (b : Bool). if b then store_directory n es ds s else store_header n es ds s) (le-ltb (length ds) (directories_for (length es)) h)
+        rest_is ∙ ap (λ (b : Bool). if' b then store_directory n es ds s else store_header n es ds s) (le-ltb (length ds) (directories_for (length es)) h)
 
 -- ---- one block exchanged
 
@@ -170,14 +170,14 @@ idle_step (running n es ds) s e = lie (sym e)
 
 module _ (len : ℕ) (s : Store) where
   pub step_5 : (len ≡ block_size * s.blocks → ⊥) → step_call len s ≡ gives (model.refused 5) s
-  unfolding step_call bad_image unless if◌then◌else◌
+  unfolding step_call bad_image unless if'◌then◌else◌
   step_5 h = rw (ne_eqb len (block_size * s.blocks) h)
 
   pub step_18 : len ≡ block_size * s.blocks → is_running s.checkpoint ≡ false → step_call len s ≡ gives (model.refused 18) s
   step_18 e h = step_at_lem len s e ∙ idle_step s.checkpoint s h
 
 answer_at : (o : Option Page) (n : ℕ) (es ds : List ℕ) (s : Store) → (step_of o n es ds s).answer ≡ model.count (left (step_of o n es ds s).store)
-unfolding step_of store_page store_directory store_header made if◌then◌else◌
+unfolding step_of store_page store_directory store_header made if'◌then◌else◌
 answer_at (some p) n es ds s = refl
 answer_at none n es ds s = by (ltb (length ds) (directories_for (length es))) (λ h. rw h refl) (λ h. rw h refl)
 

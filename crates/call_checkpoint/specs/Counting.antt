@@ -1,12 +1,12 @@
 -- Which entries of the list of pages name a block.
 use Rattle.std.specs.Prelude.{ℕ, suc, ◌+◌, ◌≤◌, ◌≡◌, Bool, not, List, [], ◌∷◌, ◌++◌, length, drop, get_or, eqb}
-use Rattle.basics.specs.Basics.{if◌then◌else◌, all}
+use Rattle.basics.specs.Basics.{if'◌then◌else◌, all}
 use Rattle.memory_layout.specs.Flat.{Flat}
 
 -- the place of the first entry that names no block yet; how many entries there are, if each does
 unfoldable pub first_zero : List ℕ → ℕ
 first_zero [] = 0
-first_zero (e ∷ es) = if eqb e 0 then 0 else suc (first_zero es)
+first_zero (e ∷ es) = if' eqb e 0 then 0 else suc (first_zero es)
 
 -- each entry before i names a block: the first that does not is found from i on
 pub record NamedBefore (es : List ℕ) (i : ℕ) : Type 0 where

@@ -1,6 +1,6 @@
 -- The lemmas that close every return of every call: without a store, refused, accepted.
 use Rattle.basics.proofs.Kit.{◌≡◌, refl, sym, ap, ◌∙◌, subst, Bool, true, false, some, none, Option, List, ◌++◌, ℕ, ◌≤◌, ◌<◌, length, drop, lt-ltb, le-ltb, arith}
-use Rattle.basics.specs.Basics.{if◌then◌else◌}
+use Rattle.basics.specs.Basics.{if'◌then◌else◌}
 use Rattle.basics.proofs.Facts.{by}
 use Rattle.model.specs.State.{Store, Write, Outcome}
 use Rattle.model.specs.Transactions.{gives, unless, replied}
@@ -77,18 +77,18 @@ module _ (call : Store → Outcome) (m : List ℕ) where
     -- a call that puts the bytes bs into the reply, with the count n
     module _ (n : ℕ) (bs : List ℕ) (h : holds_store m ≡ true) (e : call (store_of (flat_of m)) ≡ replied (length p) n bs (store_of (flat_of m))) where
       pub replies_21 : length p < length bs → Replies call m (Refused 21) p p
-      unfolding replied unless if◌then◌else◌
+      unfolding replied unless if'◌then◌else◌
       replies_21 l = replies_refused 21 h (e ∙ rw (lt-ltb (length p) (length bs) l))
 
       pub replies_with : length bs ≤ length p → (p' : List ℕ) → p' ≡ bs ++ drop (length bs) p → Replies call m (Filled n) p p'
-      unfolding replied unless if◌then◌else◌
+      unfolding replied unless if'◌then◌else◌
       replies_with l p' q = replies_filled n bs p' h (e ∙ rw (le-ltb (length p) (length bs) l)) q
 
 -- ---- calls that may lack room for a record
 
 -- 29 is given only in the place of an accepted answer
 refused_stays : (room : Bool) (call : Store → Outcome) (s : Store) → accepted (call s).answer ≡ false → with_room room call s ≡ call s
-unfolding if◌then◌else◌
+unfolding if'◌then◌else◌
 refused_stays true call s h = refl
 refused_stays false call s h = rw h
 
@@ -106,7 +106,7 @@ module _ (room : Bool) (call : Store → Outcome) (m : List ℕ) where
 
   module _ (h : room ≡ false) (k : holds_store m ≡ true) (z : Store) where
     no_room : (a : model.Answer) → accepted a ≡ true → call (store_of (flat_of m)) ≡ gives a z → Answers (with_room room call) m (Refused 29) m
-    unfolding gives if◌then◌else◌
+    unfolding gives if'◌then◌else◌
     no_room a t e =
         let q : accepted (call (store_of (flat_of m))).answer ≡ true = ap (λ (o : Outcome). accepted o.answer) e ∙ t in
         answers_refused (with_room room call) m 29 k (ap (λ (b : Bool). with_room b call (store_of (flat_of m))) h ∙ rw q)

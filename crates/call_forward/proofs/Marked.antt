@@ -1,7 +1,7 @@
 -- The records to repeat: those of the whole log, or from the last mark on its opens and the records behind it.
 use Rattle.basics.proofs.Kit.{◌≡◌, refl, sym, ap, ◌∙◌, subst, Bool, true, false, ◌&&◌, some, none, Option, List, ◌++◌, map, ℕ, zero, suc, ◌+◌, ◌*◌, ◌/◌, ◌≤◌, length, drop, arith}
 use Rattle.basics.proofs.Kit.{drop-drop, length-drop}
-use Rattle.basics.specs.Basics.{if◌then◌else◌}
+use Rattle.basics.specs.Basics.{if'◌then◌else◌}
 use Rattle.basics.proofs.Facts.{lie}
 use Rattle.basics.proofs.Elements.{all_drop}
 use Rattle.block_forms.specs.Tuple.{Byte, AllBytes}
@@ -76,11 +76,11 @@ opens_then m m1 m' a b o e p =
 
 module _ (m m' : List ℕ) (qs : List LogRecord) {ok : Bool} (a : AllRepeated qs m ok m') {o : Option (List LogRecord)} (e : o ≡ some qs) where
   pub since_done : ok ≡ true → SinceBy o m 0 m'
-  unfolding SinceBy if◌then◌else◌
+  unfolding SinceBy if'◌then◌else◌
   since_done t = subst (λ z. SinceBy z m 0 m') (sym e) (sym (rw (sym a.answer ∙ t)), λ z. a.memory t)
 
   pub since_refused : ok ≡ false → SinceBy o m 31 m'
-  unfolding SinceBy if◌then◌else◌
+  unfolding SinceBy if'◌then◌else◌
   since_refused t = subst (λ z. SinceBy z m 31 m') (sym e) (sym (rw (sym a.answer ∙ t)), λ z. absurd (omega arith))
 
 pub since_none : (m m' : List ℕ) {o : Option (List LogRecord)} → o ≡ none → SinceBy o m 30 m'

@@ -1,7 +1,7 @@
 -- The tests of roll-forward in their order: what each finds, and where it ends.
 use Rattle.basics.proofs.Kit.{◌≡◌, refl, sym, ap, ◌∙◌, subst, true, false, some, none, Option, List, [], ℕ, ◌+◌, ◌*◌, ◌≤◌, ◌<◌, length, arith}
 use Rattle.basics.proofs.Kit.{lt-ltb, le-ltb, length-append}
-use Rattle.basics.specs.Basics.{if◌then◌else◌, sorted}
+use Rattle.basics.specs.Basics.{if'◌then◌else◌, sorted}
 use Rattle.basics.specs.Lists.{over}
 use Rattle.basics.proofs.Facts.{by, by-option, lie}
 use Rattle.basics.proofs.Sorted.{length_sorted}
@@ -101,14 +101,14 @@ may_repeat log s1 e w h = record { has_store = h; inside = omega arith; records 
 
 module _ (log : List ℕ) (rs : List LogRecord) (s1 s2 : List ℕ) {v : ℕ} where
   pub since_stop : (o : Option (List LogRecord)) → SinceBy o s1 v s2 → (v ≡ 0 → ⊥) → forward_of log rs o (store_now s1) ≡ refuses v
-  unfolding SinceBy forward_of if◌then◌else◌
+  unfolding SinceBy forward_of if'◌then◌else◌
   since_stop none r nz = ap refuses (sym r)
   since_stop (some qs) r nz =
       by (all_accepted qs (store_now s1)) (λ h. let z : v ≡ 0 = r.0 ∙ rw h in absurd (nz z)) (λ h. let z : v ≡ 31 = r.0 ∙ rw h in rw h (ap refuses (sym z)))
 
   pub since_go : (o : Option (List LogRecord)) → SinceBy o s1 v s2 → v ≡ 0
       → (forward_of log rs o (store_now s1) ≡ end_forward log rs (store_now s2)) × (holds_store s2 ≡ true) × (length s2 ≡ length s1)
-  unfolding SinceBy forward_of if◌then◌else◌
+  unfolding SinceBy forward_of if'◌then◌else◌
   since_go none r z = absurd (omega (arith, r, z))
   since_go (some qs) r z =
       let h = r.1 z in
@@ -145,7 +145,7 @@ module _ (log s s1 s2 : List ℕ) (st : Stage Store) (b : Began st s s1) (e : �
       ends = omega (arith, w.ends, end_open s2, k)
 
       pub no_room : length log < e + 2 * n → forward_below log st ≡ refuses 29
-      unfolding end_forward if◌then◌else◌
+      unfolding end_forward if'◌then◌else◌
       no_room h = went.0 ∙ rw (ends, lt-ltb (length log) (e + 2 * n) h)
 
       module _ (h : e + 2 * n ≤ length log) where
@@ -153,7 +153,7 @@ module _ (log s s1 s2 : List ℕ) (st : Stage Store) (b : Began st s s1) (e : �
         may_abort = record { has_store = went.1; count = k; room = h }
 
         ended : forward_below log st ≡ holds (with_aborts log w.records (store_now s2))
-        unfolding end_forward if◌then◌else◌
+        unfolding end_forward if'◌then◌else◌
         ended = went.0 ∙ rw (ends, le-ltb (length log) (e + 2 * n) h)
 
         pub restored : (s3 log3 : List ℕ) → Aborted s2 log e s3 log3 → {v : ℕ} → v ≡ e + 2 * n → RestoredBy (forward_below log st) s log (record { answer = Done; end = v }) s3 log3

@@ -1,7 +1,7 @@
 -- Records of a log repeated from a byte on: one further (`turn`, `going_next`, `going_stop`), or the end (`going_end`).
 use Rattle.basics.proofs.Kit.{◌≡◌, refl, sym, ap, ◌∙◌, subst, Bool, true, false, some, List, [], ◌∷◌, ◌++◌, ℕ, ◌+◌, ◌-◌, ◌≤◌, ◌<◌, min, length, take, drop, arith}
 use Rattle.basics.proofs.Kit.{drop-drop, take-append_seam}
-use Rattle.basics.specs.Basics.{if◌then◌else◌}
+use Rattle.basics.specs.Basics.{if'◌then◌else◌}
 use Rattle.basics.proofs.Facts.{by-option, never}
 use Rattle.basics.proofs.Elements.{some_eq, all_drop}
 use Rattle.block_forms.specs.Numbers.{be4}
@@ -80,7 +80,7 @@ pub record Turn (log : List ℕ) (p size : ℕ) (e : Entry) (qs : List LogRecord
 
 -- a record that is read is what stands there
 pub entry_read : (xs : List ℕ) (r : LogRecord) → ended xs ≡ false → decode_record xs ≡ some r → entry_in xs ≡ entry_as r
-unfolding entry_in entry_of if◌then◌else◌
+unfolding entry_in entry_of if'◌then◌else◌
 entry_read xs r h d = rw (h, d)
 
 module _ (log : List ℕ) (b : AllBytes log) (p : ℕ) (qs : List LogRecord) (read : read_log (drop p log) ≡ some qs) {e : Entry} (q : e ≡ entry_in (drop p log)) {size : ℕ} (z : size ≡ entry_size e) where

@@ -1,7 +1,7 @@
 -- What each part of roll-forward needs and leaves.
 use Rattle.std.specs.Prelude.{ℕ, ◌+◌, ◌*◌, ◌≤◌, ◌<◌, ◌≡◌, Bool, true, List, [], ◌∷◌, length, drop}
 use Rattle.std.proofs.Math.Option.{Option, none, some}
-use Rattle.basics.specs.Basics.{if◌then◌else◌, AllOf}
+use Rattle.basics.specs.Basics.{if'◌then◌else◌, AllOf}
 use Rattle.basics.specs.Lists.{over}
 use Rattle.block_forms.specs.Limits.{transaction_limit}
 use Rattle.block_forms.specs.Decode.{read_entries}
@@ -85,7 +85,7 @@ pub record MayRepeatMarked (m log : List ℕ) (at : ℕ) : Type 0 where
 -- what is to be repeated was repeated: 30 if there is no mark, 31 if a record was refused, else 0
 unfoldable pub SinceBy : Option (List LogRecord) → List ℕ → ℕ → List ℕ → Type 0
 SinceBy none m v m' = v ≡ 30
-SinceBy (some qs) m v m' = (v ≡ (if all_accepted qs (store_now m) then 0 else 31)) × (v ≡ 0 → HoldsNow m m' (repeat_all qs (store_now m)))
+SinceBy (some qs) m v m' = (v ≡ (if' all_accepted qs (store_now m) then 0 else 31)) × (v ≡ 0 → HoldsNow m m' (repeat_all qs (store_now m)))
 
 -- ---- aborts
 

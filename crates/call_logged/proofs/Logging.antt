@@ -1,6 +1,6 @@
 -- A call whose record is appended where it was done meets the contract of a logged call.
 use Rattle.basics.proofs.Kit.{◌≡◌, refl, sym, ap, ◌∙◌, subst, ap₂, Bool, true, false, some, none, Option, List, [], ◌∷◌, ℕ, ◌+◌, ◌%◌, ◌≤◌, ◌<◌, mod-eq_of_lt, leb, ltb, length, lt-ltb, le-ltb, arith}
-use Rattle.basics.specs.Basics.{if◌then◌else◌}
+use Rattle.basics.specs.Basics.{if'◌then◌else◌}
 use Rattle.basics.specs.Lists.{over}
 use Rattle.block_forms.specs.Limits.{transaction_limit}
 use Rattle.block_forms.specs.Tuple.{AllBytes}
@@ -40,7 +40,7 @@ taken_means (Refused n) bs o e = ap accepted e
 
 -- with room or without: accepted only if there is room
 room_taken : (call : Store → Outcome) (s : Store) (b : Bool) → accepted (with_room b call s).answer ≡ true → (b ≡ true) × (accepted (call s).answer ≡ true)
-unfolding accepted if◌then◌else◌ gives
+unfolding accepted if'◌then◌else◌ gives
 room_taken call s true q = (refl, q)
 room_taken call s false q = by (accepted (call s).answer) (λ k. lie (rw k at q)) (λ k. lie (sym k ∙ (rw k at q)))
 
@@ -74,7 +74,7 @@ module _ (call : Store → Outcome) (rec : Store → LogRecord) (m log : List �
 
     -- refused by a test of its own
     stays : accepted (call s).answer ≡ false → Afterwards (with_room room call s) m a m' → LoggedAfter O m res m' log'
-    unfolding logging unlogged if◌then◌else◌
+    unfolding logging unlogged if'◌then◌else◌
     stays n x =
         let y = subst (λ o. Afterwards o m a m') (same_outcome room) x in
         let q = p.other (taken_means a _ (call s).answer y.answer ∙ n) in
@@ -86,7 +86,7 @@ module _ (call : Store → Outcome) (rec : Store → LogRecord) (m log : List �
 
     -- accepted, but there is no room
     full : accepted (call s).answer ≡ true → room ≡ false → Afterwards (with_room room call s) m a m' → LoggedAfter O m res m' log'
-    unfolding logging appending unlogged if◌then◌else◌
+    unfolding logging appending unlogged if'◌then◌else◌
     full n q x =
         let o = gives (model.refused 29) s in
         let y = subst (λ z. Afterwards z m a m') (ap (λ b. with_room b call s) q ∙ refuses) x in
@@ -102,7 +102,7 @@ module _ (call : Store → Outcome) (rec : Store → LogRecord) (m log : List �
 
     -- accepted, with room
     appends : accepted (call s).answer ≡ true → room ≡ true → Afterwards (with_room room call s) m a m' → LoggedAfter O m res m' log'
-    unfolding logging appending if◌then◌else◌
+    unfolding logging appending if'◌then◌else◌
     appends n q x =
         let y = subst (λ b. Afterwards (with_room b call s) m a m') q x in
         let k = p.done (taken_means a _ (call s).answer y.answer ∙ n) in

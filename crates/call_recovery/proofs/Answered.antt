@@ -1,7 +1,7 @@
 -- Recovery's answers: by the stage that refused, or with the store recovered.
 use Rattle.basics.proofs.Kit.{◌≡◌, refl, sym, ap, ◌∙◌, List, map, ℕ, ◌+◌, ◌*◌, ◌≤◌, ◌<◌, length, take, take_at, lt-ltb, le-ltb, arith}
 use Rattle.basics.specs.Lists.{over}
-use Rattle.basics.specs.Basics.{if◌then◌else◌}
+use Rattle.basics.specs.Basics.{if'◌then◌else◌}
 use Rattle.block_forms.specs.declared.Header.{Header}
 use Rattle.image.specs.View.{View, view}
 use Rattle.image.specs.Stages.{Stage, refuses, holds, StoredPage}
@@ -64,15 +64,15 @@ module _ (img m : List ℕ) where
 
   module _ (h : Header) (e : header_stage img ≡ holds h) where
     pub refused_memory : length m < memory_for h.capacity → Recovered img m (Refused 3) m
-    unfolding RecoveredBy recover recover_below if◌then◌else◌
+    unfolding RecoveredBy recover recover_below if'◌then◌else◌
     refused_memory l = rw (e, lt-ltb (length m) (memory_for h.capacity) l) (refl, refl)
 
     module _ (l : memory_for h.capacity ≤ length m) where
       pub refused_pages : (k : ℕ) → pages_stage (view img) h ≡ refuses k → Recovered img m (Refused k) m
-      unfolding RecoveredBy recover recover_below recover_pages if◌then◌else◌
+      unfolding RecoveredBy recover recover_below recover_pages if'◌then◌else◌
       refused_pages k q = rw (e, le-ltb (length m) (memory_for h.capacity) l, q) (refl, refl)
 
       pub all_recovered : (ps : List StoredPage) (m' : List ℕ) → pages_stage (view img) h ≡ holds ps
           → HoldsNow m m' (recovered_store h ps) → Recovered img m Done m'
-      unfolding RecoveredBy recover recover_below recover_pages if◌then◌else◌
+      unfolding RecoveredBy recover recover_below recover_pages if'◌then◌else◌
       all_recovered ps m' q k = rw (e, le-ltb (length m) (memory_for h.capacity) l, q) (refl, k)

@@ -5,7 +5,7 @@ use Rattle.basics.proofs.Kit.{◌≡◌, refl, sym, ap, ◌∙◌, subst, Bool, 
 use Rattle.basics.proofs.Kit.{take, drop, get_or, set, length-append, length-take, take-append-drop, length-set, length-replicate, drop_of_length-le, length-map, replicate, get_or-replicate}
 use Rattle.basics.proofs.Kit.{List·getD-map}
 use Rattle.basics.proofs.Kit.{drop-cons, take_all, take-suc, get_or-set_same, get_or-set_other, eqb-true, eq-eqb, ne_eqb, eqb-false, ltb-true, ltb-false, arith}
-use Rattle.basics.specs.Basics.{if◌then◌else◌, any, how_many}
+use Rattle.basics.specs.Basics.{if'◌then◌else◌, any, how_many}
 use Rattle.basics.proofs.Facts.{by}
 use Rattle.block_forms.specs.Tuple.{Owner, committed, tentative, OwnerFits}
 use Rattle.image_rows.specs.Rows.{Row, is_by, is_own, add_owner, transactions}
@@ -24,7 +24,7 @@ pub counts_sized : {rs : List Row} {xs : List ℕ} → Counts rs xs → length r
 counts_sized {rs} {xs} k h = record { size = k.size; most = λ t l. omega (arith, k.each t l, many_length (is_own t) rs) }
 
 own_one : (t : ℕ) (r : Row) (b : Bool) → is_own t r ≡ b → how_many (is_own t) (r ∷ []) ≡ cond b 1 0
-unfolding how_many if◌then◌else◌
+unfolding how_many if'◌then◌else◌
 own_one t r true h = rw h
 own_one t r false h = rw h
 
@@ -108,7 +108,7 @@ module _ (f : Flat) where
 
 -- once all are passed, none comes after
 last_opened : (o : Owner) {all ps : List Row} (rs : List Row) {xs ys : List ℕ} → OwnerFits o → Counts all xs → Counts ps ys → all ≡ ps ++ rs → opened_by o xs ys ≡ opened all o rs
-unfolding opened_by opened reopened if◌then◌else◌
+unfolding opened_by opened reopened if'◌then◌else◌
 last_opened committed rs f a b e = refl
 last_opened (tentative t s) {all} {ps} rs {xs} {ys} f a b e =
     let n : how_many (is_own t) all ≡ how_many (is_own t) ps + how_many (is_own t) rs = ap (how_many (is_own t)) e ∙ many_append (is_own t) ps rs in
@@ -124,11 +124,11 @@ last_opened (tentative t s) {all} {ps} rs {xs} {ys} f a b e =
 
 module _ {o : Owner} (t s k : ℕ) (cs ps : List ℕ) (e : o ≡ tentative t s) (q : k ≡ t) where
   pub opened_other : (get_or ps k 0 ≡ get_or cs k 0 → ⊥) → opened_by o cs ps ≡ []
-  unfolding opened_by if◌then◌else◌
+  unfolding opened_by if'◌then◌else◌
   opened_other h = ap (λ (x : Owner). opened_by x cs ps) e ∙ ap (λ (n : ℕ). opened_by (tentative n s) cs ps) (sym q) ∙ rw (ne_eqb (get_or ps k 0) (get_or cs k 0) h)
 
   pub opened_last : get_or ps k 0 ≡ get_or cs k 0 → opened_by o cs ps ≡ record { transaction = t; written = get_or cs k 0 } ∷ []
-  unfolding opened_by if◌then◌else◌
+  unfolding opened_by if'◌then◌else◌
   opened_last h =
       ap (λ (x : Owner). opened_by x cs ps) e ∙ ap (λ (n : ℕ). opened_by (tentative n s) cs ps) (sym q)
       ∙ rw (eq-eqb (get_or ps k 0) (get_or cs k 0) h) (λ i. record { transaction = q i; written = get_or cs k 0 } ∷ [])
@@ -149,7 +149,7 @@ opens_one {m} e b = becomes_as (sym (λ i. with_opens (flat_of m) ((flat_of m).o
 
 -- one transaction more, if it is not there yet
 words_by : (all rs : List Row) (o : Owner) → map (reopened all) (add_owner o (transactions rs)) ≡ opened all o rs ++ map (reopened all) (transactions rs)
-unfolding add_owner opened if◌then◌else◌
+unfolding add_owner opened if'◌then◌else◌
 words_by all rs committed = refl
 words_by all rs (tentative t s) = by (any (is_own t) rs) (λ h. rw (in_transactions t rs, h)) (λ h. rw (in_transactions t rs, h))
 

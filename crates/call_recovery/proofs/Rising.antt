@@ -1,6 +1,6 @@
 -- The tables of the pages do not fall: rows rise by table, and every page has a row.
 use Rattle.basics.proofs.Kit.{◌≡◌, refl, ◌∙◌, Bool, true, ◌&&◌, not, List, [], ◌∷◌, ◌++◌, ℕ, ◌≤◌, leb, eqb, ltb, length, le-leb, leb-true, eqb-true, ltb-true, arith}
-use Rattle.basics.specs.Basics.{if◌then◌else◌, all, paired}
+use Rattle.basics.specs.Basics.{if'◌then◌else◌, all, paired}
 use Rattle.basics.proofs.Facts.{by, AllOf, and_true}
 use Rattle.basics.proofs.Lists.{all_weak, all_join}
 use Rattle.block_forms.specs.Tuple.{Tuple}
@@ -26,7 +26,7 @@ lower_table r s h =
     omega (arith, eqb-true r.0 s.0 (and_true (eqb r.0 s.0) (ltb r.1.key s.1.key) k).0))
 
 follows_table : (r s : Row) → follows r s ≡ true → r.0 ≤ s.0
-unfolding follows if◌then◌else◌
+unfolding follows if'◌then◌else◌
 follows_table r s h =
     by (is_at s.0 s.1.key r)
     (λ e. omega (arith, at_table s.0 s.1.key r e))

@@ -1,6 +1,6 @@
 -- The store that the memory holds when all is loaded.
 use Rattle.basics.proofs.Kit.{◌≡◌, refl, sym, ap, ◌∙◌, true, false, List, [], ◌∷◌, ◌++◌, map, ℕ, ◌≤◌, length, drop, length-append, length-map, take_at, drop_at, le-leb, arith}
-use Rattle.basics.specs.Basics.{if◌then◌else◌, all, how_many, is_in}
+use Rattle.basics.specs.Basics.{if'◌then◌else◌, all, how_many, is_in}
 use Rattle.basics.proofs.Facts.{AllOf}
 use Rattle.basics.proofs.Lists.{map_append}
 use Rattle.basics.proofs.Elements.{all_append, all_map, all_mapped}
@@ -128,7 +128,7 @@ unfolding blocks_in
 used_is h ps = used_then (blocks_in ps) (directory_blocks h) (λ c. false) ∙ used_first (blocks_in ps ++ directory_blocks h)
 
 pub store_is : (h : Header) (ps : List StoredPage) → store_of (with_head (reopened_in (laid_pages h ps (blocks_in ps) (directory_blocks h))) (head_for h)) ≡ recovered_store h ps
-unfolding store_of recovered_store fresh_flat own_rows checkpoint_of if◌then◌else◌
+unfolding store_of recovered_store fresh_flat own_rows checkpoint_of if'◌then◌else◌
 store_is h ps =
     let a = pages_are ps in
     let b = open_is ps in

@@ -1,7 +1,7 @@
 -- What recovery's tests showed, where they passed.
 use Rattle.block_forms.specs.Limits.{block_limit}
 use Rattle.basics.proofs.Kit.{◌≡◌, sym, ap, ◌∙◌, true, some, Option, List, [], ◌∷◌, ◌++◌, map, ℕ, ◌≤◌, ◌<◌, ltb, length, length-take, leb-true, ltb-true, arith}
-use Rattle.basics.specs.Basics.{if◌then◌else◌, all, every, paired}
+use Rattle.basics.specs.Basics.{if'◌then◌else◌, all, every, paired}
 use Rattle.basics.proofs.Facts.{by, AllOf, and_true}
 use Rattle.basics.proofs.Elements.{some_eq, every_all}
 use Rattle.block_forms.specs.Tuple.{AllFit}
@@ -42,7 +42,7 @@ pub record Whole (img : List ℕ) (h : Header) : Type 0 where
   pub many : block_count img ≤ block_limit
 
 pub whole : (img : List ℕ) (h : Header) → header_stage img ≡ holds h → Whole img h
-unfolding header_stage block_count if◌then◌else◌
+unfolding header_stage block_count if'◌then◌else◌
 whole img h e =
     by (whole_blocks (length img))
     (λ w. let c = blocks_whole (length img) w in record { passed = passing img h e; few = c.1; many = c.2 })

@@ -1,6 +1,6 @@
 -- The transactions of the tentative tuples are open.
 use Rattle.std.specs.Prelude.{ℕ, ◌+◌, ◌≤◌, ◌<◌, ◌≡◌, List, [], ◌∷◌, map, length, get_or, set, eqb}
-use Rattle.basics.specs.Basics.{if◌then◌else◌, AllOf, any, how_many}
+use Rattle.basics.specs.Basics.{if'◌then◌else◌, AllOf, any, how_many}
 use Rattle.block_forms.specs.Limits.{transaction_limit}
 use Rattle.block_forms.specs.Tuple.{Owner, committed, tentative, OwnerFits}
 use Rattle.image.specs.Stages.{capacity_limit}
@@ -41,12 +41,12 @@ noted (tentative t s) xs = set xs t (get_or xs t 0 + 1)
 -- the owner's transaction, once as many of its tuples are passed as there are
 unfoldable pub opened_by : Owner → List ℕ → List ℕ → List Active
 opened_by committed counts passed = []
-opened_by (tentative t s) counts passed = if eqb (get_or passed t 0) (get_or counts t 0) then record { transaction = t; written = get_or counts t 0 } ∷ [] else []
+opened_by (tentative t s) counts passed = if' eqb (get_or passed t 0) (get_or counts t 0) then record { transaction = t; written = get_or counts t 0 } ∷ [] else []
 
 -- at the last row of a transaction it is opened: rs come after the row, and all is all rows
 unfoldable pub opened : List Row → Owner → List Row → List Active
 opened all committed rs = []
-opened all (tentative t s) rs = if any (is_own t) rs then [] else reopened all t ∷ []
+opened all (tentative t s) rs = if' any (is_own t) rs then [] else reopened all t ∷ []
 
 -- ---- what the functions ask
 

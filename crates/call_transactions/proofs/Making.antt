@@ -2,7 +2,7 @@
 use Rattle.block_forms.specs.Limits.{block_limit, block_size}
 use Rattle.basics.proofs.Kit.{◌≡◌, refl, sym, ap, ◌∙◌, ⊎_elim, true, false, List, ◌++◌, ℕ, ◌%◌, ◌≤◌, ◌<◌, ◌/◌, leb, eqb, ltb, length, drop, le-leb, lt-ltb, le-ltb, lt-leb}
 use Rattle.basics.proofs.Kit.{eqb-true, eq-eqb, ne_eqb, eqb-false, arith}
-use Rattle.basics.specs.Basics.{if◌then◌else◌}
+use Rattle.basics.specs.Basics.{if'◌then◌else◌}
 use Rattle.basics.proofs.Facts.{by}
 use Rattle.block_forms.specs.Block.{header, encode_block}
 use Rattle.block_forms.specs.declared.Header.{Header}
@@ -30,7 +30,7 @@ module _ (n : ℕ) (img m : List ℕ) where
 
 module _ (len mem n : ℕ) where
   not_whole : whole_blocks len ≡ false → make len mem n ≡ refuses 1
-  unfolding make if◌then◌else◌
+  unfolding make if'◌then◌else◌
   not_whole e = rw e
 
   pub make_odd : (len % block_size ≡ 0 → ⊥) → make len mem n ≡ refuses 1
@@ -51,20 +51,20 @@ module _ (len mem n : ℕ) where
     is_whole = rw (eq-eqb (len % block_size) 0 whole, le-leb 2 (len / block_size) few, le-leb (len / block_size) block_limit many)
 
     pub make_none : n < 1 → make len mem n ≡ refuses 2
-    unfolding make if◌then◌else◌
+    unfolding make if'◌then◌else◌
     make_none h = rw (is_whole, lt-ltb n 1 h)
 
     pub make_large : capacity_limit < n → make len mem n ≡ refuses 2
-    unfolding make if◌then◌else◌
+    unfolding make if'◌then◌else◌
     make_large h = rw (is_whole, lt-ltb capacity_limit n h, or_right (ltb n 1) true refl)
 
     module _ (least : 1 ≤ n) (most : n ≤ capacity_limit) where
       pub make_short : mem < memory_for n → make len mem n ≡ refuses 3
-      unfolding make if◌then◌else◌
+      unfolding make if'◌then◌else◌
       make_short h = rw (is_whole, le-ltb n 1 least, le-ltb capacity_limit n most, lt-ltb mem (memory_for n) h)
 
       make_done : memory_for n ≤ mem → make len mem n ≡ holds (fresh_store (len / block_size) n)
-      unfolding make if◌then◌else◌
+      unfolding make if'◌then◌else◌
       make_done h = rw (is_whole, le-ltb n 1 least, le-ltb capacity_limit n most, le-ltb mem (memory_for n) h)
 
 -- ---- the refusal that they give

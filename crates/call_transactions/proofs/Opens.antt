@@ -1,7 +1,7 @@
 -- A transaction's entry among the open ones: what is found there, written and taken out.
 use Rattle.basics.proofs.Kit.{◌≡◌, refl, sym, ap, ◌∙◌, true, false, not, List, [], ◌∷◌, ℕ, suc, ◌≤◌, ◌<◌, length, get_or, set, eqb-true, eq-eqb, ne_eqb, eqb-false}
 use Rattle.basics.proofs.Kit.{arith}
-use Rattle.basics.specs.Basics.{if◌then◌else◌, any, is_in, keep}
+use Rattle.basics.specs.Basics.{if'◌then◌else◌, any, is_in, keep}
 use Rattle.basics.proofs.Facts.{by}
 use Rattle.model.specs.State.{Active}
 use Rattle.model.specs.Transactions.{is_for, open_numbers, written_by, one_more, with_write, without}
@@ -24,11 +24,11 @@ module _ (tx : ℕ) (o : Active) (os : List Active) where
     numbers_here = in_here tx o.transaction _ (eq-eqb tx o.transaction (sym (eqb-true o.transaction tx e)))
 
     wrote_here : with_write tx (o ∷ os) ≡ one_more o ∷ os
-    unfolding with_write one_more if◌then◌else◌
+    unfolding with_write one_more if'◌then◌else◌
     wrote_here = rw e
 
     count_here : written_by tx (o ∷ os) ≡ o.written
-    unfolding written_by if◌then◌else◌
+    unfolding written_by if'◌then◌else◌
     count_here = rw e
 
     without_here : without tx (o ∷ os) ≡ without tx os
@@ -44,11 +44,11 @@ module _ (tx : ℕ) (o : Active) (os : List Active) where
     numbers_on = in_past tx o.transaction _ (ne_eqb tx o.transaction (λ q. eqb-false o.transaction tx e (sym q)))
 
     wrote_on : with_write tx (o ∷ os) ≡ o ∷ with_write tx os
-    unfolding with_write if◌then◌else◌
+    unfolding with_write if'◌then◌else◌
     wrote_on = rw e
 
     count_on : written_by tx (o ∷ os) ≡ written_by tx os
-    unfolding written_by if◌then◌else◌
+    unfolding written_by if'◌then◌else◌
     count_on = rw e
 
     without_on : without tx (o ∷ os) ≡ o ∷ without tx os

@@ -1,6 +1,6 @@
 -- Read: what it answers by the version that is seen.
 use Rattle.basics.proofs.Kit.{◌≡◌, sym, ap, ◌∙◌, Option, List, [], ◌∷◌, ℕ, ◌≤◌, ◌<◌, ltb, length, lt-ltb, le-ltb}
-use Rattle.basics.specs.Basics.{if◌then◌else◌}
+use Rattle.basics.specs.Basics.{if'◌then◌else◌}
 use Rattle.basics.proofs.Facts.{by}
 use Rattle.image_rows.specs.Rows.{Row}
 use Rattle.model.specs.State.{Held, Store, Outcome}
@@ -16,7 +16,7 @@ use Rattle.call_transactions.proofs.Refusing.{refused_here, passed_on, unless_no
 use Rattle.model.specs.State as model
 
 applied_payload : (h : Held) → (applied h).payload ≡ h.tuple.payload
-unfolding applied as_committed if◌then◌else◌
+unfolding applied as_committed if'◌then◌else◌
 applied_payload h = by (is_committing h.pending) (λ e. rw e) (λ e. rw e)
 
 version_payload : (f : Flat) (t i : ℕ) → (version f t i).1.payload ≡ (row_in f i).tuple.payload

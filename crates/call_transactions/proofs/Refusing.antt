@@ -1,7 +1,7 @@
 -- The first test that holds, and what a call that was tested does.
 use Rattle.block_forms.specs.Limits.{most_transaction}
 use Rattle.basics.proofs.Kit.{◌≡◌, refl, sym, ap, ◌∙◌, Bool, true, false, not, List, [], ◌∷◌, ◌++◌, ℕ, ◌≤◌, ◌<◌, ltb, length, lt-ltb, le-ltb, arith}
-use Rattle.basics.specs.Basics.{if◌then◌else◌}
+use Rattle.basics.specs.Basics.{if'◌then◌else◌}
 use Rattle.basics.proofs.Facts.{by}
 use Rattle.model.specs.State.{Store, Outcome}
 use Rattle.model.specs.Transactions.{Test, ◌when◌, gives, unless, not_open}
@@ -20,20 +20,20 @@ use Rattle.model.specs.State as model
 
 module _ (n : ℕ) (b : Bool) (ts : List Test) where
   pub stop_here : b ≡ true → first_refusal (n when b ∷ ts) ≡ n
-  unfolding first_refusal if◌then◌else◌
+  unfolding first_refusal if'◌then◌else◌
   stop_here e = rw e
 
   pub go_on : b ≡ false → first_refusal (n when b ∷ ts) ≡ first_refusal ts
-  unfolding first_refusal if◌then◌else◌
+  unfolding first_refusal if'◌then◌else◌
   go_on e = rw e
 
   module _ (s : Store) (o : Outcome) where
     pub refused_here : b ≡ true → unless (n when b ∷ ts) s o ≡ gives (model.refused n) s
-    unfolding unless if◌then◌else◌
+    unfolding unless if'◌then◌else◌
     refused_here e = rw e
 
     pub passed_on : b ≡ false → unless (n when b ∷ ts) s o ≡ unless ts s o
-    unfolding unless if◌then◌else◌
+    unfolding unless if'◌then◌else◌
     passed_on e = rw e
 
 pub refusal_none : first_refusal [] ≡ 0
@@ -52,25 +52,25 @@ Numbered ((n when b) ∷ ts) = (0 < n) × Numbered ts
 pub unless_append : (xs ys : List Test) (s : Store) (o : Outcome) → unless (xs ++ ys) s o ≡ unless xs s (unless ys s o)
 unfolding unless
 unless_append [] ys s o = refl
-unless_append ((n when b) ∷ xs) ys s o = ap (λ (z : Outcome). if b then gives (model.refused n) s else z) (unless_append xs ys s o)
+unless_append ((n when b) ∷ xs) ys s o = ap (λ (z : Outcome). if' b then gives (model.refused n) s else z) (unless_append xs ys s o)
 
 pub unless_stop : (ts : List Test) (s : Store) (o : Outcome) → (first_refusal ts ≡ 0 → ⊥) → unless ts s o ≡ gives (model.refused (first_refusal ts)) s
-unfolding first_refusal unless if◌then◌else◌
+unfolding first_refusal unless if'◌then◌else◌
 unless_stop [] s o h = absurd (h refl)
 unless_stop ((n when b) ∷ ts) s o h = by b (λ e. rw e) (λ e. rw e (unless_stop ts s o (rw e at h)))
 
 pub unless_pass : (ts : List Test) (s : Store) (o : Outcome) → Numbered ts → first_refusal ts ≡ 0 → unless ts s o ≡ o
-unfolding first_refusal unless if◌then◌else◌
+unfolding first_refusal unless if'◌then◌else◌
 unless_pass [] s o a h = refl
 unless_pass ((n when b) ∷ ts) s o a h = by b (λ e. let z : n ≡ 0 = rw e at h in absurd (omega (arith, a.0))) (λ e. rw e (unless_pass ts s o a.1 (rw e at h)))
 
 pub refusal_append : (xs ys : List Test) → first_refusal xs ≡ 0 → Numbered xs → first_refusal (xs ++ ys) ≡ first_refusal ys
-unfolding first_refusal if◌then◌else◌
+unfolding first_refusal if'◌then◌else◌
 refusal_append [] ys h a = refl
 refusal_append ((n when b) ∷ xs) ys h a = by b (λ e. let z : n ≡ 0 = rw e at h in absurd (omega (arith, a.0))) (λ e. rw e (refusal_append xs ys (rw e at h) a.1))
 
 pub refusal_first : (xs ys : List Test) → (first_refusal xs ≡ 0 → ⊥) → first_refusal (xs ++ ys) ≡ first_refusal xs
-unfolding first_refusal if◌then◌else◌
+unfolding first_refusal if'◌then◌else◌
 refusal_first [] ys h = absurd (h refl)
 refusal_first ((n when b) ∷ xs) ys h = by b (λ e. rw e) (λ e. rw e (refusal_first xs ys (rw e at h)))
 

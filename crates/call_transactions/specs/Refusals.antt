@@ -1,7 +1,7 @@
 -- The tests of a call, as the number of the first that holds.
 use Rattle.std.specs.Prelude.{Bool, true, false, List, [], ◌∷◌, ℕ}
 use Rattle.std.proofs.Math.Option.{Option, none, some}
-use Rattle.basics.specs.Basics.{if◌then◌else◌}
+use Rattle.basics.specs.Basics.{if'◌then◌else◌}
 use Rattle.model.specs.State.{Store}
 use Rattle.model.specs.Transactions.{Test, ◌when◌, key_tests}
 use Rattle.memory_layout.specs.Flat.{Flat}
@@ -14,7 +14,7 @@ use Rattle.engine_lookup.specs.declared.Seen.TheVariants.{At, Nothing}
 -- the number of the first test that holds, 0 if none does
 unfoldable pub first_refusal : List Test → ℕ
 first_refusal [] = 0
-first_refusal ((n when b) ∷ ts) = if b then n else first_refusal ts
+first_refusal ((n when b) ∷ ts) = if' b then n else first_refusal ts
 
 -- the same for the tests on a store; 4 if there is no store
 unfoldable pub refusal_in : Option Store → (Store → List Test) → ℕ

@@ -1,7 +1,7 @@
 -- The functions that change the memory, one after another: what each leaves of the pages and of what is left to do.
 use Rattle.basics.proofs.Kit.{◌≡◌, refl, sym, ap, ◌∙◌, subst, ap₂, true, false, List, ◌∷◌, ◌++◌, ℕ, suc, ◌+◌, ◌≤◌, ◌<◌, ◌-◌, add-one, length, take, drop, length-take, length-drop}
 use Rattle.basics.proofs.Kit.{drop-drop, take-add, drop-cons, arith}
-use Rattle.basics.specs.Basics.{if◌then◌else◌}
+use Rattle.basics.specs.Basics.{if'◌then◌else◌}
 use Rattle.block_forms.specs.Tuple.{Tuple}
 use Rattle.model.specs.State.{Held, Page}
 use Rattle.model.specs.Places.{tagged, carry_out, remove_row, commit_row, plan_newest, commit_place, OnlyRow}
@@ -120,7 +120,7 @@ split_run xs a e k l h m =
     ∙ ap (λ y. take (k - a) (drop a xs) ++ take (suc (e - suc k)) y) (drop-drop (k - a) a xs ∙ ap (λ n. drop n xs) z ∙ drop-cons xs k _ (omega arith))
 
 newest_marked : (n a e k : ℕ) (ps : List Page) → (row_from (tagged ps) k).1.tuple.mark ≡ true → closed_run n a e k ps ≡ removed_live n a (e - a) ps
-unfolding closed_run plan_newest removed_live if◌then◌else◌
+unfolding closed_run plan_newest removed_live if'◌then◌else◌
 newest_marked n a e k ps h = rw (ap (λ (x : Tuple). x.mark) (applied_is (row_from (tagged ps) k).1), h)
 
 newest_kept : (n a e k : ℕ) (ps : List Page) → a ≤ k → k < e → e ≤ length (tagged ps) → (row_from (tagged ps) k).1.tuple.mark ≡ false
@@ -128,7 +128,7 @@ newest_kept : (n a e k : ℕ) (ps : List Page) → a ≤ k → k < e → e ≤ l
     ≡ carry_out n (commit_place (entry_place n (tagged ps) k)
     ∷ (picks is_live (entry_place n (tagged ps) a) (take (k - a) (drop a (tagged ps)))
     ++ picks is_live (suc (entry_place n (tagged ps) k)) (take (e - suc k) (drop (suc k) (tagged ps))))) ps
-unfolding closed_run plan_newest if◌then◌else◌
+unfolding closed_run plan_newest if'◌then◌else◌
 newest_kept n a e k ps l u m h =
     let xs = tagged ps in
     let ws = take (k - a) (drop a xs) in

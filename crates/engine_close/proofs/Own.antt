@@ -1,6 +1,6 @@
 -- The search for own rows: a row that is not tentative belongs to no transaction.
 use Rattle.basics.proofs.Kit.{◌≡◌, refl, sym, ap, ◌∙◌, ⊎_elim, false, not, List, ℕ, ◌+◌, ◌≤◌, ◌<◌, ◌-◌, length, take, drop, get_or, length-take, length-drop, get_or-drop, get_or-take, arith}
-use Rattle.basics.specs.Basics.{if◌then◌else◌, any}
+use Rattle.basics.specs.Basics.{if'◌then◌else◌, any}
 use Rattle.basics.proofs.Facts.{by}
 use Rattle.block_forms.specs.Tuple.{Owner, committed, tentative, is_tentative}
 use Rattle.image_rows.specs.Rows.{is_by}
@@ -27,7 +27,7 @@ by_none tx committed e = refl
 by_none tx (tentative u s) e = absurd (let z : ◌≡◌ {A = ℕ} 0 1 = cc in omega arith)
 
 own_not : (tx : ℕ) (h : Held) → is_owned h ≡ false → is_live_own tx h ≡ false
-unfolding is_owned is_live_own applied as_committed if◌then◌else◌
+unfolding is_owned is_live_own applied as_committed if'◌then◌else◌
 own_not tx h e =
     by (is_committing h.pending) (λ k. rw k ((unfold is_by in and_no (not (is_removing h.pending)))))
     (λ k. rw (k, by_none tx h.tuple.owner e) (and_no (not (is_removing h.pending))))

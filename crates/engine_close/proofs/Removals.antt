@@ -1,7 +1,7 @@
 -- The removal of chosen rows, one after another: what is left to do, in terms of the rows as they are now.
 use Rattle.basics.proofs.Kit.{◌≡◌, refl, sym, ap, ◌∙◌, subst, ap₂, Bool, true, false, List, [], ◌∷◌, ◌++◌, ℕ, suc, ◌+◌, ◌≤◌, ◌<◌, zero, ◌-◌, add-one, length, take, drop, length-take}
 use Rattle.basics.proofs.Kit.{length-drop, length-map, drop-drop, take-add, drop-cons, take_all, arith}
-use Rattle.basics.specs.Basics.{if◌then◌else◌, keep}
+use Rattle.basics.specs.Basics.{if'◌then◌else◌, keep}
 use Rattle.basics.proofs.Facts.{by}
 use Rattle.image_rows.specs.Rows.{is_by, is_own}
 use Rattle.model.specs.State.{Held, Page}
@@ -89,14 +89,14 @@ module _ (f : Held → Bool) where
   -- the removals of those that pass, the first being at place i
   unfoldable pub picks : ℕ → List (ℕ × Held) → List PlaceOp
   picks i [] = []
-  picks i (x ∷ xs) = if f x.1 then remove_place i ∷ picks (suc i) xs else picks (suc i) xs
+  picks i (x ∷ xs) = if' f x.1 then remove_place i ∷ picks (suc i) xs else picks (suc i) xs
 
   picks_pass : (i : ℕ) (x : ℕ × Held) (xs : List (ℕ × Held)) → f x.1 ≡ false → picks i (x ∷ xs) ≡ picks (suc i) xs
-  unfolding picks if◌then◌else◌
+  unfolding picks if'◌then◌else◌
   picks_pass i x xs e = rw e
 
   picks_hit : (i : ℕ) (x : ℕ × Held) (xs : List (ℕ × Held)) → f x.1 ≡ true → picks i (x ∷ xs) ≡ remove_place i ∷ picks (suc i) xs
-  unfolding picks if◌then◌else◌
+  unfolding picks if'◌then◌else◌
   picks_hit i x xs e = rw e
 
   -- those of k rows from row j on that pass are removed
@@ -169,13 +169,13 @@ module _ (f : Held → Bool) where
 -- ---- live rows and own rows
 
 pub live_picks : (i : ℕ) (xs : List (ℕ × Held)) → remove_places (live_of (placed i xs)) ≡ picks is_live i xs
-unfolding remove_places live_of placed picks is_live if◌then◌else◌
+unfolding remove_places live_of placed picks is_live if'◌then◌else◌
 live_picks i [] = refl
 live_picks i (x ∷ xs) =
     by (is_removing x.1.pending) (λ h. rw h (live_picks (suc i) xs)) (λ h. rw h (ap (λ z. remove_place i ∷ z) (live_picks (suc i) xs)))
 
 pub own_picks : (tx i : ℕ) (xs : List (ℕ × Held)) → remove_places (keep (own_placed tx) (live_of (placed i xs))) ≡ picks (is_live_own tx) i xs
-unfolding remove_places live_of placed keep own_placed is_own picks is_live_own if◌then◌else◌
+unfolding remove_places live_of placed keep own_placed is_own picks is_live_own if'◌then◌else◌
 own_picks tx i [] = refl
 own_picks tx i (x ∷ xs) =
     by (is_removing x.1.pending) (λ h. rw h (own_picks tx (suc i) xs))

@@ -1,6 +1,6 @@
 -- The plan of a commit, run by run: rows without an own one among them are passed over, and a run is split off at its end.
 use Rattle.basics.proofs.Kit.{◌≡◌, refl, ap, ◌∙◌, true, false, not, some, none, List, [], ◌∷◌, ◌++◌, ℕ, suc, ◌+◌, ◌≤◌, ◌<◌, ◌-◌, eqb, length, take, drop, get_or, eq-eqb, ne_eqb, arith}
-use Rattle.basics.specs.Basics.{if◌then◌else◌, keep, last}
+use Rattle.basics.specs.Basics.{if'◌then◌else◌, keep, last}
 use Rattle.basics.proofs.Facts.{by, lie, AllOf}
 use Rattle.image_rows.specs.Rows.{is_by, is_own}
 use Rattle.model.specs.Rules.{is_removing, applied}
@@ -22,7 +22,7 @@ module _ (tx : ℕ) where
   NoOwn xs = AllOf (λ x. is_live_own tx x.1 ≡ false) xs
 
   none_last : (xs : List Placed) → NoneIn xs → last (own_placed tx) (live_of xs) ≡ none
-  unfolding last live_of own_placed is_own is_live_own if◌then◌else◌
+  unfolding last live_of own_placed is_own is_live_own if'◌then◌else◌
   none_last [] a = refl
   none_last (x ∷ xs) a =
       by (is_removing x.1.1.pending) (λ h. rw h (none_last xs a.1))
@@ -55,7 +55,7 @@ module _ (tx : ℕ) where
   -- the newest own row
   pub newest_is : (i k : ℕ) (ws : List Entry) (x : Entry) (ys : List Entry) → is_live_own tx x.1 ≡ true → NoOwn ys → k ≡ i + length ws
       → last (own_placed tx) (live_of (placed i (ws ++ x ∷ ys))) ≡ some (k, (x.0, applied x.1))
-  unfolding placed last live_of own_placed is_own is_live_own if◌then◌else◌
+  unfolding placed last live_of own_placed is_own is_live_own if'◌then◌else◌
   newest_is i k [] x ys o n e =
       by (is_removing x.1.pending) (λ h. lie (rw h at o))
       (λ h. let b : is_by tx (applied x.1).owner ≡ true = rw h at o in
@@ -71,7 +71,7 @@ module _ (tx : ℕ) where
 
 -- the places behind k
 behind_picks : (i k : ℕ) (ys : List Entry) → k < i → remove_places (keep (λ y. not (eqb y.0 k)) (live_of (placed i ys))) ≡ picks is_live i ys
-unfolding remove_places keep live_of placed picks is_live if◌then◌else◌
+unfolding remove_places keep live_of placed picks is_live if'◌then◌else◌
 behind_picks i k [] h = refl
 behind_picks i k (y ∷ ys) h =
     let e : eqb i k ≡ false = ne_eqb i k (λ q. omega arith) in
@@ -81,7 +81,7 @@ behind_picks i k (y ∷ ys) h =
 -- all but place k
 pub other_picks : (i k : ℕ) (ws : List Entry) (x : Entry) (ys : List Entry) → k ≡ i + length ws
     → remove_places (keep (λ y. not (eqb y.0 k)) (live_of (placed i (ws ++ x ∷ ys)))) ≡ picks is_live i ws ++ picks is_live (suc k) ys
-unfolding remove_places keep live_of placed picks is_live if◌then◌else◌
+unfolding remove_places keep live_of placed picks is_live if'◌then◌else◌
 other_picks i k [] x ys e =
     let z : i ≡ k = omega arith in
     let s : eqb i k ≡ true = eq-eqb i k z in

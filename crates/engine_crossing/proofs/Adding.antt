@@ -1,6 +1,6 @@
 -- Row by row and run by run: one row more that does not cross, and a run's key put out or not.
 use Rattle.basics.proofs.Kit.{◌≡◌, sym, ap, ◌∙◌, ⊎_elim, true, false, some, List, [], ◌∷◌, ℕ, ◌+◌, ◌*◌, ◌<◌, length, arith}
-use Rattle.basics.specs.Basics.{if◌then◌else◌}
+use Rattle.basics.specs.Basics.{if'◌then◌else◌}
 use Rattle.basics.specs.Lists.{over}
 use Rattle.basics.proofs.Tabs.{lt_or_ge}
 use Rattle.basics.proofs.Overs.{over_nil}
@@ -38,11 +38,11 @@ module _ {f : Flat} (tx first end a b : ℕ) {r : Seen} (s : RunSeen f tx a b r)
     keys_version t = ap (key_if first end) (sym (s t).means ∙ ap (seen_at f t) e)
 
     keys_not : crosses first end (row_in f k).tuple ≡ false → (t : ℕ) → run_keys f tx first end t a b ≡ []
-    unfolding key_if version if◌then◌else◌
+    unfolding key_if version if'◌then◌else◌
     keys_not c t = keys_version t ∙ rw (applied_crosses first end (row_in f k) ∙ c)
 
     keys_one : crosses first end (row_in f k).tuple ≡ true → (t : ℕ) → run_keys f tx first end t a b ≡ key_in f k ∷ []
-    unfolding key_if version if◌then◌else◌
+    unfolding key_if version if'◌then◌else◌
     keys_one c t = keys_version t ∙ rw (applied_crosses first end (row_in f k) ∙ c) (ap (λ (x : Tuple). x.key ∷ []) (applied_is (row_in f k)))
 
   -- ---- what is put out

@@ -1,7 +1,7 @@
 -- The pass over the rows of a table: what is put out and what is left, at its start, after a run and at its end.
 use Rattle.basics.proofs.Kit.{◌≡◌, refl, sym, ap, ◌∙◌, ap₂, ⊎_elim, some, none, Option, List, [], ◌∷◌, ◌++◌, append_assoc, append-nil, ℕ, zero-add, ◌+◌, ◌*◌, ◌≤◌, ◌<◌, ◌/◌, ◌%◌}
 use Rattle.basics.proofs.Kit.{length, drop, length-append, arith}
-use Rattle.basics.specs.Basics.{if◌then◌else◌}
+use Rattle.basics.specs.Basics.{if'◌then◌else◌}
 use Rattle.basics.specs.Lists.{over}
 use Rattle.basics.proofs.Facts.{by}
 use Rattle.basics.proofs.Tabs.{lt_or_ge}
@@ -31,7 +31,7 @@ keys_append [] ys = refl
 keys_append (x ∷ xs) ys = ap (λ z. x / 16777216 % 256 ∷ x / 65536 % 256 ∷ x / 256 % 256 ∷ x % 256 ∷ z) (keys_append xs ys)
 
 one_at_most : (first end : ℕ) (o : Option Row) → length (key_if first end o) ≤ 1
-unfolding key_if if◌then◌else◌
+unfolding key_if if'◌then◌else◌
 one_at_most first end none = omega arith
 one_at_most first end (some r) = by (crosses first end r.1) (λ h. rw h (omega arith)) (λ h. rw h (omega arith))
 

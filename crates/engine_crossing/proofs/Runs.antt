@@ -1,6 +1,6 @@
 -- The keys that cross, from a row on: rows of which none crosses are passed over, and a run is split off.
 use Rattle.basics.proofs.Kit.{◌≡◌, refl, sym, ap, ◌∙◌, ⊎_elim, false, some, none, Option, List, [], ◌∷◌, ◌++◌, ℕ, suc, ◌+◌, ◌≤◌, ◌<◌, zero, ◌-◌, eqb, length, take, drop, eq-eqb, eqb-true, arith}
-use Rattle.basics.specs.Basics.{if◌then◌else◌, keep}
+use Rattle.basics.specs.Basics.{if'◌then◌else◌, keep}
 use Rattle.basics.specs.Lists.{tab}
 use Rattle.basics.proofs.Facts.{by, AllOf}
 use Rattle.basics.proofs.Tabs.{lt_or_ge, tab_part}
@@ -27,7 +27,7 @@ use Rattle.engine_crossing.specs.Crossing.{OneKey, run_rows, run_keys}
 
 -- a pending operation changes neither key nor payload
 pub applied_crosses : (first end : ℕ) (h : Held) → crosses first end (applied h) ≡ crosses first end h.tuple
-unfolding crosses applied as_committed if◌then◌else◌
+unfolding crosses applied as_committed if'◌then◌else◌
 applied_crosses first end h = by (is_committing h.pending) (λ e. rw e) (λ e. rw e)
 
 module _ (tx t first end : ℕ) where
@@ -36,7 +36,7 @@ module _ (tx t first end : ℕ) where
   Dull x = x.0 ≡ t → crosses first end x.1.tuple ≡ false
 
   none_cross : (run : List Placed) → AllOf (λ x. Dull x.1) run → AllOf (λ r. crosses first end r.1 ≡ false) (rows_of_table t run)
-  unfolding rows_of_table live_of keep if◌then◌else◌
+  unfolding rows_of_table live_of keep if'◌then◌else◌
   none_cross [] a = tt
   none_cross (x ∷ run) a =
       let rest = none_cross run a.1 in
@@ -44,7 +44,7 @@ module _ (tx t first end : ℕ) where
       (λ h. by (eqb x.1.0 t) (λ q. rw (h, q) (applied_crosses first end x.1.1 ∙ a.0 (eqb-true x.1.0 t q), rest)) (λ q. rw (h, q) rest))
 
   key_none : (o : Option Row) → ((r : Row) → o ≡ some r → crosses first end r.1 ≡ false) → key_if first end o ≡ []
-  unfolding key_if if◌then◌else◌
+  unfolding key_if if'◌then◌else◌
   key_none none f = refl
   key_none (some r) f = rw (f r refl)
 
@@ -61,7 +61,7 @@ with_table_lem t xs g a zero h = refl
 with_table_lem t xs g a (suc n) h = rw (h a (omega arith) (omega arith), with_table_lem t xs g (suc a) n (λ j x y. h j (omega arith) (omega arith)))
 
 all_kept : (t : ℕ) (xs : List Tuple) → keep (λ r. eqb r.0 t) (rows_of t xs) ≡ rows_of t xs
-unfolding rows_of keep if◌then◌else◌
+unfolding rows_of keep if'◌then◌else◌
 all_kept t [] = refl
 all_kept t (x ∷ xs) = rw (eq-eqb t t refl, all_kept t xs)
 

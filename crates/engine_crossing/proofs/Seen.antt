@@ -1,6 +1,6 @@
 -- What a transaction sees of a run: the versions of its key among its rows are all its live rows.
 use Rattle.basics.proofs.Kit.{◌≡◌, refl, sym, ap, ◌∙◌, true, List, [], ◌∷◌, ℕ, ◌-◌, arith}
-use Rattle.basics.specs.Basics.{if◌then◌else◌}
+use Rattle.basics.specs.Basics.{if'◌then◌else◌}
 use Rattle.basics.specs.Lists.{tab}
 use Rattle.basics.proofs.Facts.{by, AllOf}
 use Rattle.basics.proofs.Elements.{keep_all}
@@ -22,7 +22,7 @@ use Rattle.engine_crossing.specs.Crossing.{OneKey, run_rows, RunSeen}
 
 -- live tuples of one key
 all_at : (t k : ℕ) (hs : List Held) → AllOf (λ h. h.tuple.key ≡ k) hs → AllOf (λ r. is_at t k r ≡ true) (rows_of t (live hs))
-unfolding live rows_of if◌then◌else◌
+unfolding live rows_of if'◌then◌else◌
 all_at t k [] a = tt
 all_at t k (h ∷ hs) a =
     by (is_removing h.pending) (λ e. rw e (all_at t k hs a.1))

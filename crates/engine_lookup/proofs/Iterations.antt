@@ -1,6 +1,6 @@
 -- Rows noted along a list: one by one, in parts, and past rows of other keys.
 use Rattle.basics.proofs.Kit.{◌≡◌, refl, sym, ap, ◌∙◌, true, false, List, ◌∷◌, ℕ, suc, ◌+◌, ◌≤◌, ◌<◌, zero, ◌-◌, add-one, eqb, eq-eqb, ne_eqb, arith}
-use Rattle.basics.specs.Basics.{if◌then◌else◌}
+use Rattle.basics.specs.Basics.{if'◌then◌else◌}
 use Rattle.model.specs.State.{Held}
 use Rattle.memory_bytes.specs.Columns.{Covers}
 use Rattle.basics.specs.Lists.{tab}
@@ -16,11 +16,11 @@ along f tx k i n l = notes tx k i (tab (row_in f) i n) l
 
 module _ (tx k i : ℕ) (h : Held) (hs : List Held) (l : Visibility) where
   pub notes_on : eqb h.tuple.key k ≡ false → notes tx k i (h ∷ hs) l ≡ notes tx k (suc i) hs l
-  unfolding notes if◌then◌else◌
+  unfolding notes if'◌then◌else◌
   notes_on e = rw e
 
   pub notes_here : eqb h.tuple.key k ≡ true → notes tx k i (h ∷ hs) l ≡ notes tx k (suc i) hs (note tx i h l)
-  unfolding notes if◌then◌else◌
+  unfolding notes if'◌then◌else◌
   notes_here e = rw e
 
 -- ---- turn by turn
@@ -56,7 +56,7 @@ module _ (f : Flat) (tx k : ℕ) where
   notes_parts i (suc a) n l =
       let e : suc a + n ≡ suc (a + n) = omega arith in
       let q : suc i + a ≡ i + suc a = omega arith in
-      let l1 : Visibility = if eqb (row_in f i).tuple.key k then note tx i (row_in f i) l else l in
+      let l1 : Visibility = if' eqb (row_in f i).tuple.key k then note tx i (row_in f i) l else l in
       ap (λ (z : ℕ). along f tx k i z l) e
       ∙ notes_parts (suc i) a n l1
       ∙ ap (λ (z : ℕ). along f tx k z n (along f tx k (suc i) a l1)) q

@@ -2,7 +2,7 @@
 use Rattle.basics.proofs.Kit.{◌≡◌, refl, sym, ap, ◌∙◌, ⊎_elim, Bool, true, false, [], ◌∷◌, ℕ, ◌+◌, add-one, eq-eqb, ne_eqb, arith}
 use types.Run.{OneOf}
 use denote.Enum.Declared.{tag_of}
-use Rattle.basics.specs.Basics.{if◌then◌else◌}
+use Rattle.basics.specs.Basics.{if'◌then◌else◌}
 use Rattle.block_forms.specs.Tuple.{Owner, Tuple}
 use Rattle.model.specs.State as model
 use Rattle.model.specs.State.{Held}
@@ -17,11 +17,11 @@ use Rattle.engine_lookup.specs.declared.Visibility.{Visibility}
 -- the committed version that counts is the first
 module _ (i : ℕ) (l : Visibility) where
   pub first_committed : l.committed ≡ 0 → record { foreign = l.foreign; own = l.own; committed = i + 1 } ≡ note_committed i l
-  unfolding note_committed if◌then◌else◌
+  unfolding note_committed if'◌then◌else◌
   first_committed e = rw (eq-eqb l.committed 0 e, add-one i)
 
   pub later_committed : (l.committed ≡ 0 → ⊥) → record { foreign = l.foreign; own = l.own; committed = l.committed } ≡ note_committed i l
-  unfolding note_committed if◌then◌else◌
+  unfolding note_committed if'◌then◌else◌
   later_committed e = rw (ne_eqb l.committed 0 e)
 
   pub own_tentative : (b : Bool) → b ≡ true → record { foreign = l.foreign; own = i + 1; committed = l.committed } ≡ note_tentative i b l
@@ -41,7 +41,7 @@ by_pending tx i model.removing o l = l
 
 module _ (tx i : ℕ) (h : Held) (l : Visibility) where
   note_is : note tx i h l ≡ by_pending tx i h.pending h.tuple.owner l
-  unfolding note note_owner applied as_committed is_removing is_committing if◌then◌else◌
+  unfolding note note_owner applied as_committed is_removing is_committing if'◌then◌else◌
   note_is = by_pending_lem h.tuple h.pending
     where
       by_pending_lem : (x : Tuple) (p : model.Pending) → note tx i (record { tuple = x; pending = p }) l ≡ by_pending tx i p x.owner l

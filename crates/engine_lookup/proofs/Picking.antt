@@ -1,6 +1,6 @@
 -- What is seen, by what there is of a key.
 use Rattle.basics.proofs.Kit.{◌≡◌, refl, sym, ap, ◌∙◌, Bool, true, false, some, none, List, ℕ, suc, ◌≤◌, zero, ◌-◌, length, arith}
-use Rattle.basics.specs.Basics.{if◌then◌else◌, first, last}
+use Rattle.basics.specs.Basics.{if'◌then◌else◌, first, last}
 use Rattle.basics.proofs.Facts.{by}
 use Rattle.block_forms.specs.Tuple.{Tuple}
 use Rattle.image_rows.specs.Rows.{Row, is_own}
@@ -23,7 +23,7 @@ place_seen f t zero = refl
 place_seen f t (suc i) = refl
 
 module _ (tx : ℕ) (vs : List Row) where
-  seen_own : (x : Row) → last (is_own tx) vs ≡ some x → seen_of tx vs ≡ (if x.1.mark then none else some x)
+  seen_own : (x : Row) → last (is_own tx) vs ≡ some x → seen_of tx vs ≡ (if' x.1.mark then none else some x)
   unfolding seen_of
   seen_own x e = rw (e, seen_of)
 
@@ -31,8 +31,8 @@ module _ (tx : ℕ) (vs : List Row) where
   unfolding seen_of
   seen_committed e = rw (e, seen_of)
 
-seen_if : (f : Flat) (t i : ℕ) (b : Bool) → seen_at f t (if b then Nothing else At i) ≡ (if b then none else some (version f t i))
-unfolding seen_at if◌then◌else◌
+seen_if : (f : Flat) (t i : ℕ) (b : Bool) → seen_at f t (if' b then Nothing else At i) ≡ (if' b then none else some (version f t i))
+unfolding seen_at if'◌then◌else◌
 seen_if f t i true = refl
 seen_if f t i false = refl
 
@@ -40,7 +40,7 @@ picked_at_lem : (f : Flat) (t tx o h : ℕ) (vs : List Row) → version_at f t o
 unfolding picked_at version_at
 picked_at_lem f t tx zero h vs n s = place_seen f t h ∙ s ∙ sym (seen_committed tx vs (sym n))
 picked_at_lem f t tx (suc i) h vs n s =
-    seen_if f t i (row_in f i).tuple.mark ∙ ap (λ (b : Bool). if b then none else some (version f t i)) (sym (version_mark f t i)) ∙ sym (seen_own tx vs (version f t i) (sym n))
+    seen_if f t i (row_in f i).tuple.mark ∙ ap (λ (b : Bool). if' b then none else some (version f t i)) (sym (version_mark f t i)) ∙ sym (seen_own tx vs (version f t i) (sym n))
 
 -- what is picked is what is seen
 pub picked_seen : (f : Flat) (t tx : ℕ) (vs : List Row) (l : Visibility) → Shows f t tx vs l → seen_at f t (picked f l) ≡ seen_of tx vs
@@ -53,7 +53,7 @@ place_in f zero b = tt
 place_in f (suc i) b = b
 
 picked_in : (f : Flat) (o h : ℕ) → o ≤ length f.rows → h ≤ length f.rows → Inside f (picked_at f o h)
-unfolding Inside picked_at if◌then◌else◌
+unfolding Inside picked_at if'◌then◌else◌
 picked_in f zero h a b = place_in f h b
 picked_in f (suc i) h a b = by (row_in f i).tuple.mark (λ e. rw e tt) (λ e. rw e a)
 
@@ -77,18 +77,18 @@ module _ (f : Flat) (l : Visibility) where
   pick_committed e q = let z : l.committed ≡ suc (l.committed - 1) = omega arith in sym (ap place_of z) ∙ picked_committed e
 
   module _ (i : ℕ) (ei : i ≡ l.own - 1) (ne : l.own ≡ 0 → ⊥) (b : Bool) (eb : b ≡ (row_in f i).tuple.mark) where
-    picked_own : picked f l ≡ (if b then Nothing else At i)
+    picked_own : picked f l ≡ (if' b then Nothing else At i)
     unfolding picked picked_at
     picked_own =
         let z : l.own ≡ suc i = omega arith in
-        ap (λ (o : ℕ). picked_at f o l.committed) z ∙ ap (λ (v : Bool). if v then Nothing else At i) (sym eb)
+        ap (λ (o : ℕ). picked_at f o l.committed) z ∙ ap (λ (v : Bool). if' v then Nothing else At i) (sym eb)
 
     pub pick_marked : b ≡ true → Nothing ≡ picked f l
-    unfolding if◌then◌else◌
+    unfolding if'◌then◌else◌
     pick_marked e = sym (picked_own ∙ rw e)
 
     pub pick_own : b ≡ false → At i ≡ picked f l
-    unfolding if◌then◌else◌
+    unfolding if'◌then◌else◌
     pick_own e = sym (picked_own ∙ rw e)
 
 -- the version that is seen of any versions, from what there is of them

@@ -1,7 +1,7 @@
 -- The versions of a key are among the rows of its table, one run of all rows.
 use Rattle.basics.proofs.Kit.{◌≡◌, refl, sym, ap, ◌∙◌, List, [], ◌∷◌, ◌++◌, ℕ, suc, ◌+◌, ◌≤◌, ◌<◌, zero, ◌-◌, length, take, drop, get_or, drop-drop, take-add}
 use Rattle.basics.proofs.Kit.{ne_eqb, arith}
-use Rattle.basics.specs.Basics.{if◌then◌else◌, keep, sum}
+use Rattle.basics.specs.Basics.{if'◌then◌else◌, keep, sum}
 use Rattle.basics.proofs.Facts.{by}
 use Rattle.block_forms.specs.Tuple.{Tuple}
 use Rattle.image_rows.specs.Rows.{Row, rows_of, is_at}
@@ -33,7 +33,7 @@ use Rattle.image_page.proofs.Walk.{rows_append}
 -- ---- in parts
 
 live_append : (xs ys : List Held) → live (xs ++ ys) ≡ live xs ++ live ys
-unfolding live if◌then◌else◌
+unfolding live if'◌then◌else◌
 live_append [] ys = refl
 live_append (x ∷ xs) ys = by (is_removing x.pending) (λ e. rw e (live_append xs ys)) (λ e. rw (e, live_append xs ys))
 
@@ -46,7 +46,7 @@ versions_append t k xs ys =
 -- ---- page by page
 
 other_table : (t k u : ℕ) (xs : List Tuple) → (u ≡ t → ⊥) → keep (is_at t k) (rows_of u xs) ≡ []
-unfolding rows_of is_at keep if◌then◌else◌
+unfolding rows_of is_at keep if'◌then◌else◌
 other_table t k u [] n = refl
 other_table t k u (x ∷ xs) n = rw (ne_eqb u t n) (other_table t k u xs n)
 

@@ -1,6 +1,6 @@
 -- The rows noted one after another show the versions of a key among them.
 use Rattle.basics.proofs.Kit.{◌≡◌, refl, sym, ap, ◌∙◌, true, false, ◌&&◌, not, List, [], ◌∷◌, ◌++◌, append_assoc, append-nil, ℕ, suc, ◌+◌, ◌≤◌, ◌<◌, zero, eqb, length, eq-eqb, ne_eqb, arith}
-use Rattle.basics.specs.Basics.{if◌then◌else◌, any, first, last, keep}
+use Rattle.basics.specs.Basics.{if'◌then◌else◌, any, first, last, keep}
 use Rattle.basics.proofs.Facts.{by}
 use Rattle.basics.proofs.Firsts.{first_some}
 use Rattle.block_forms.specs.Tuple.{Tuple, Owner, committed, tentative, is_tentative}
@@ -33,19 +33,19 @@ module _ (f : Flat) (t tx i : ℕ) (o : Owner) (eo : (applied (row_in f i)).owne
   foreign_is = ap (λ (z : Owner). is_tentative z && not (is_by tx z)) eo
 
 committed_place : (f : Flat) (t i h : ℕ) (vs : List Row) → is_committed (version f t i) ≡ true → version_at f t h ≡ first is_committed vs
-    → version_at f t (if eqb h 0 then suc i else h) ≡ first is_committed (vs ++ version f t i ∷ [])
-unfolding version_at if◌then◌else◌
+    → version_at f t (if' eqb h 0 then suc i else h) ≡ first is_committed (vs ++ version f t i ∷ [])
+unfolding version_at if'◌then◌else◌
 committed_place f t i zero vs e q = sym (first_new is_committed (version f t i) e vs (sym q))
 committed_place f t i (suc h) vs e q = rw (ne_eqb (suc h) 0 (λ z. omega arith)) (sym (first_some is_committed vs (version f t i ∷ []) (version f t h) (sym q)))
 
-committed_inside : (i h n : ℕ) → i < n → h ≤ n → (if eqb h 0 then suc i else h) ≤ n
-unfolding if◌then◌else◌
+committed_inside : (i h n : ℕ) → i < n → h ≤ n → (if' eqb h 0 then suc i else h) ≤ n
+unfolding if'◌then◌else◌
 committed_inside i zero n a b = a
 committed_inside i (suc h) n a b = rw (ne_eqb (suc h) 0 (λ z. omega arith)) b
 
 shows_one : (f : Flat) (t tx i : ℕ) (o : Owner) (vs : List Row) (l : Visibility) → (applied (row_in f i)).owner ≡ o → i < length f.rows → Shows f t tx vs l
     → Shows f t tx (vs ++ version f t i ∷ []) (note_owner tx i o l)
-unfolding note_owner note_committed note_tentative is_tentative is_by version_at if◌then◌else◌
+unfolding note_owner note_committed note_tentative is_tentative is_by version_at if'◌then◌else◌
 shows_one f t tx i committed vs l eo h s =
     let x : Row = version f t i in
     record {
@@ -82,11 +82,11 @@ versions_on t k hs = keep (is_at t k) (rows_of t (live hs))
 
 module _ (t k : ℕ) (h : Held) (hs : List Held) where
   past_removed : is_removing h.pending ≡ true → versions_on t k (h ∷ hs) ≡ versions_on t k hs
-  unfolding live if◌then◌else◌
+  unfolding live if'◌then◌else◌
   past_removed e = rw e
 
   live_row : is_removing h.pending ≡ false → rows_of t (live (h ∷ hs)) ≡ (t, applied h) ∷ rows_of t (live hs)
-  unfolding live rows_of if◌then◌else◌
+  unfolding live rows_of if'◌then◌else◌
   live_row e = rw e
 
   at_is : is_at t k (t, applied h) ≡ eqb h.tuple.key k
@@ -103,11 +103,11 @@ module _ (t k : ℕ) (h : Held) (hs : List Held) where
 
 module _ (tx i : ℕ) (h : Held) (l : Visibility) where
   note_removed : is_removing h.pending ≡ true → note tx i h l ≡ l
-  unfolding note if◌then◌else◌
+  unfolding note if'◌then◌else◌
   note_removed e = rw e
 
   note_live : is_removing h.pending ≡ false → note tx i h l ≡ note_owner tx i (applied h).owner l
-  unfolding note if◌then◌else◌
+  unfolding note if'◌then◌else◌
   note_live e = rw e
 
 shows_same : (f : Flat) (t tx : ℕ) (vs ws : List Row) (l r : Visibility) → ws ≡ vs → r ≡ l → Shows f t tx vs l → Shows f t tx ws r

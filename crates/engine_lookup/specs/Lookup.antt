@@ -1,7 +1,7 @@
 -- What a transaction finds of a key, by the places of rows.
 use Rattle.std.specs.Prelude.{◌≡◌, Bool, true, false, List, [], ◌∷◌, ℕ, zero, suc, ◌+◌, ◌≤◌, ◌<◌, length, eqb}
 use Rattle.std.proofs.Math.Option.{Option, none, some}
-use Rattle.basics.specs.Basics.{if◌then◌else◌, any, first, last}
+use Rattle.basics.specs.Basics.{if'◌then◌else◌, any, first, last}
 use Rattle.block_forms.specs.Tuple.{Owner, committed, tentative}
 use Rattle.image_rows.specs.Rows.{Row, is_own}
 use Rattle.model.specs.State.{Held}
@@ -41,7 +41,7 @@ blank = record { foreign = false; own = 0; committed = 0 }
 
 -- a committed version more, at row i
 unfoldable pub note_committed : ℕ → Visibility → Visibility
-note_committed i l = record { foreign = l.foreign; own = l.own; committed = if eqb l.committed 0 then suc i else l.committed }
+note_committed i l = record { foreign = l.foreign; own = l.own; committed = if' eqb l.committed 0 then suc i else l.committed }
 
 -- a tentative version more, the transaction's own or not
 unfoldable pub note_tentative : ℕ → Bool → Visibility → Visibility
@@ -55,12 +55,12 @@ note_owner tx i (tentative u s) l = note_tentative i (eqb u tx) l
 
 -- row i is noted; one pending removal is none
 unfoldable pub note : ℕ → ℕ → Held → Visibility → Visibility
-note tx i h l = if is_removing h.pending then l else note_owner tx i (applied h).owner l
+note tx i h l = if' is_removing h.pending then l else note_owner tx i (applied h).owner l
 
 -- the rows from place i on; those of another key are passed by
 unfoldable pub notes : ℕ → ℕ → ℕ → List Held → Visibility → Visibility
 notes tx k i [] l = l
-notes tx k i (h ∷ hs) l = notes tx k (suc i) hs (if eqb h.tuple.key k then note tx i h l else l)
+notes tx k i (h ∷ hs) l = notes tx k (suc i) hs (if' eqb h.tuple.key k then note tx i h l else l)
 
 -- ---- what is seen
 
@@ -82,7 +82,7 @@ place_of (suc i) = At i
 -- the own newest version, unless it is a delete mark; without one the committed version
 unfoldable pub picked_at : Flat → ℕ → ℕ → Seen
 picked_at f zero h = place_of h
-picked_at f (suc i) h = if (row_in f i).tuple.mark then Nothing else At i
+picked_at f (suc i) h = if' (row_in f i).tuple.mark then Nothing else At i
 
 -- the version that the two places found give
 unfoldable pub picked : Flat → Visibility → Seen

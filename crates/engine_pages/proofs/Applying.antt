@@ -2,7 +2,7 @@
 use Rattle.basics.proofs.Kit.{◌≡◌, refl, sym, ap, ◌∙◌, subst, true, false, List, [], ◌∷◌, ◌++◌, append_assoc, append-nil, map, ℕ, suc, ◌+◌, ◌≤◌, ◌<◌, ◌-◌, add-one, length, take, drop, get_or}
 use Rattle.basics.proofs.Kit.{set, length-append, length-drop, take-append-drop, length-set, set_split, take_at, drop_at, drop-cons, take-suc, get_or-drop, length-take-le, get_or-set_same}
 use Rattle.basics.proofs.Kit.{set-get_or, set-set, get_or-append_seam, arith}
-use Rattle.basics.specs.Basics.{if◌then◌else◌, sum}
+use Rattle.basics.specs.Basics.{if'◌then◌else◌, sum}
 use Rattle.basics.proofs.Facts.{by}
 use Rattle.model.specs.State.{nothing, Held}
 use Rattle.model.specs.Rules.{is_removing, is_committing, with_pending, without_pending, applied, live}
@@ -24,15 +24,15 @@ use Rattle.engine_pages.proofs.Rows.{now_dirty, now_dropped}
 -- ---- tuples
 
 applied_removed : (h : Held) → is_removing h.pending ≡ true → apply_pending h ≡ []
-unfolding apply_pending if◌then◌else◌
+unfolding apply_pending if'◌then◌else◌
 applied_removed h e = rw e
 
 applied_kept : (h : Held) → is_removing h.pending ≡ false → apply_pending h ≡ without_pending (applied h) ∷ []
-unfolding apply_pending if◌then◌else◌
+unfolding apply_pending if'◌then◌else◌
 applied_kept h e = rw e
 
 pub applied_live : (hs : List Held) → applied_all hs ≡ map without_pending (live hs)
-unfolding applied_all live apply_pending if◌then◌else◌
+unfolding applied_all live apply_pending if'◌then◌else◌
 applied_live [] = refl
 applied_live (h ∷ hs) = by (is_removing h.pending) (λ e. rw e (applied_live hs)) (λ e. rw e (ap (λ (z : List Held). without_pending (applied h) ∷ z) (applied_live hs)))
 
@@ -45,11 +45,11 @@ applied_one : (h : Held) → length (apply_pending h) ≤ 1
 applied_one h = by (is_removing h.pending) (λ e. omega (arith, ap length (applied_removed h e))) (λ e. omega (arith, ap length (applied_kept h e)))
 
 kept_committing : (h : Held) → is_committing h.pending ≡ true → with_pending nothing (committed_row h) ≡ without_pending (applied h)
-unfolding with_pending committed_row without_pending applied if◌then◌else◌
+unfolding with_pending committed_row without_pending applied if'◌then◌else◌
 kept_committing h e = rw e
 
 kept_other : (h : Held) → is_committing h.pending ≡ false → with_pending nothing h ≡ without_pending (applied h)
-unfolding with_pending without_pending applied if◌then◌else◌
+unfolding with_pending without_pending applied if'◌then◌else◌
 kept_other h e = rw e
 
 -- ---- one row

@@ -1,7 +1,7 @@
 -- The model's walk to the first page that passes a test, by place; pages joined there.
 use Rattle.basics.proofs.Kit.{◌≡◌, refl, sym, ap, ◌∙◌, subst, Bool, true, false, some, none, Option, List, [], ◌∷◌, ◌++◌, append-nil, ℕ, suc, ◌+◌, ◌≤◌, ◌<◌, zero, add-one, length}
 use Rattle.basics.proofs.Kit.{take, drop, drop_of_length-le, drop-nil, arith}
-use Rattle.basics.specs.Basics.{if◌then◌else◌, is_empty}
+use Rattle.basics.specs.Basics.{if'◌then◌else◌, is_empty}
 use Rattle.basics.proofs.Facts.{by}
 use Rattle.basics.specs.Lists.{first_index}
 use Rattle.model.specs.State.{Page}
@@ -99,24 +99,24 @@ module _ {m : List ℕ} {p : ℕ} (a : There m p) where
     second = subst (λ (z : ℕ). drop z (pages_of m) ≡ page_at m (p + 1) ∷ drop (suc z) (pages_of m)) (add-one p) (from_page b)
 
     step : (rest : List Page) → settled_next p (pages_of m) rest
-        ≡ take p (pages_of m) ++ (if joins (page_at m p) (page_at m (p + 1)) then joined (page_at m p) (page_at m (p + 1)) ∷ drop (suc (suc p)) (pages_of m)
+        ≡ take p (pages_of m) ++ (if' joins (page_at m p) (page_at m (p + 1)) then joined (page_at m p) (page_at m (p + 1)) ∷ drop (suc (suc p)) (pages_of m)
         else rest ++ page_at m (p + 1) ∷ drop (suc (suc p)) (pages_of m))
     unfolding settle_next
     step rest = next_is rest ∙ ap (λ (z : List Page). take p (pages_of m) ++ settle_next rest (page_at m p) z) second
 
     pub next_joins : joins (page_at m p) (page_at m (p + 1)) ≡ true → (rest : List Page)
         → settled_next p (pages_of m) rest ≡ take p (pages_of m) ++ joined (page_at m p) (page_at m (p + 1)) ∷ drop (p + 2) (pages_of m)
-    unfolding if◌then◌else◌
+    unfolding if'◌then◌else◌
     next_joins h rest =
         let z2 : suc (suc p) ≡ p + 2 = omega arith in
-        step rest ∙ ap (λ (z : Bool). take p (pages_of m) ++ (if z then joined (page_at m p) (page_at m (p + 1)) ∷ drop (suc (suc p)) (pages_of m)
+        step rest ∙ ap (λ (z : Bool). take p (pages_of m) ++ (if' z then joined (page_at m p) (page_at m (p + 1)) ∷ drop (suc (suc p)) (pages_of m)
         else rest ++ page_at m (p + 1) ∷ drop (suc (suc p)) (pages_of m))) h
         ∙ ap (λ (z : ℕ). take p (pages_of m) ++ joined (page_at m p) (page_at m (p + 1)) ∷ drop z (pages_of m)) z2
 
     pub next_apart : joins (page_at m p) (page_at m (p + 1)) ≡ false → (rest : List Page) → settled_next p (pages_of m) rest ≡ swapped p rest (pages_of m)
-    unfolding if◌then◌else◌ swapped
+    unfolding if'◌then◌else◌ swapped
     next_apart h rest =
-        step rest ∙ ap (λ (z : Bool). take p (pages_of m) ++ (if z then joined (page_at m p) (page_at m (p + 1)) ∷ drop (suc (suc p)) (pages_of m)
+        step rest ∙ ap (λ (z : Bool). take p (pages_of m) ++ (if' z then joined (page_at m p) (page_at m (p + 1)) ∷ drop (suc (suc p)) (pages_of m)
         else rest ++ page_at m (p + 1) ∷ drop (suc (suc p)) (pages_of m))) h
         ∙ ap (λ (z : List Page). take p (pages_of m) ++ (rest ++ z)) (sym second)
 
@@ -127,18 +127,18 @@ module _ {m : List ℕ} {p : ℕ} (a : There m p) where
 
     pub before_joins : joins (page_at m p) (page_at m (p + 1)) ≡ true → (rest : List Page)
         → settled_at (suc p) (pages_of m) rest ≡ take p (pages_of m) ++ joined (page_at m p) (page_at m (p + 1)) ∷ drop (p + 2) (pages_of m)
-    unfolding settled_at settle_full if◌then◌else◌
+    unfolding settled_at settle_full if'◌then◌else◌
     before_joins h rest =
         let z2 : suc (suc p) ≡ p + 2 = omega arith in
-        both (settle_full rest) ∙ ap (λ (z : Bool). take p (pages_of m) ++ (if z then joined (page_at m p) (page_at m (p + 1)) ∷ drop (suc (suc p)) (pages_of m)
+        both (settle_full rest) ∙ ap (λ (z : Bool). take p (pages_of m) ++ (if' z then joined (page_at m p) (page_at m (p + 1)) ∷ drop (suc (suc p)) (pages_of m)
         else page_at m p ∷ settle_next rest (page_at m (p + 1)) (drop (suc (suc p)) (pages_of m)))) h
         ∙ ap (λ (z : ℕ). take p (pages_of m) ++ joined (page_at m p) (page_at m (p + 1)) ∷ drop z (pages_of m)) z2
 
     pub before_apart : joins (page_at m p) (page_at m (p + 1)) ≡ false → (rest : List Page)
         → settled_at (suc p) (pages_of m) rest ≡ settled_next (suc p) (pages_of m) rest
-    unfolding settled_at settled_next settle_full list_of if◌then◌else◌
+    unfolding settled_at settled_next settle_full list_of if'◌then◌else◌
     before_apart h rest =
-        both (settle_full rest) ∙ ap (λ (z : Bool). take p (pages_of m) ++ (if z then joined (page_at m p) (page_at m (p + 1)) ∷ drop (suc (suc p)) (pages_of m)
+        both (settle_full rest) ∙ ap (λ (z : Bool). take p (pages_of m) ++ (if' z then joined (page_at m p) (page_at m (p + 1)) ∷ drop (suc (suc p)) (pages_of m)
         else page_at m p ∷ settle_next rest (page_at m (p + 1)) (drop (suc (suc p)) (pages_of m)))) h
         ∙ sym (both (λ prev q qs. list_of prev ++ settle_next rest q qs))
 
@@ -151,9 +151,9 @@ before_none {m} a rest =
 
 -- a page that is not empty is joined or stays
 pub settle_full_lem : (rest : List Page) (prev : Option Page) (p : Page) (ps : List Page) → is_empty p.tuples ≡ false → settle rest prev p ps ≡ settle_full rest prev p ps
-unfolding settle if◌then◌else◌
+unfolding settle if'◌then◌else◌
 settle_full_lem rest prev p ps e = rw e
 
 pub settle_empty : (rest : List Page) (prev : Option Page) (p : Page) (ps : List Page) → is_empty p.tuples ≡ true → settle rest prev p ps ≡ list_of prev ++ ps
-unfolding settle if◌then◌else◌
+unfolding settle if'◌then◌else◌
 settle_empty rest prev p ps e = rw e

@@ -1,6 +1,6 @@
 -- A commit, on a frozen page and on another.
 use Rattle.basics.proofs.Kit.{◌≡◌, refl, sym, ap, ◌∙◌, true, false, List, [], ◌∷◌, ℕ, ◌-◌, set, set-get_or}
-use Rattle.basics.specs.Basics.{if◌then◌else◌}
+use Rattle.basics.specs.Basics.{if'◌then◌else◌}
 use Rattle.model.specs.State.{committing, Held, Page}
 use Rattle.model.specs.Rules.{is_adding, is_removing, commit_now, pend_commit, with_pending, with_tuples, fresh}
 use Rattle.model.specs.Places.{edit_at, committed_at, commit_row_on, commit_row}
@@ -14,11 +14,11 @@ use Rattle.engine_pages.proofs.Around.{on_swap}
 use Rattle.engine_pages.proofs.Rows.{at_row_lem, row_now, row_dirty}
 
 committed_frozen : (j : ℕ) (q : Page) → q.frozen ≡ true → committed_at j q ≡ with_tuples q (edit_at pend_commit j q.tuples)
-unfolding committed_at if◌then◌else◌
+unfolding committed_at if'◌then◌else◌
 committed_frozen j q e = rw e
 
 committed_now : (j : ℕ) (q : Page) → q.frozen ≡ false → committed_at j q ≡ fresh q.table (edit_at commit_now j q.tuples)
-unfolding committed_at if◌then◌else◌
+unfolding committed_at if'◌then◌else◌
 committed_now j q e = rw e
 
 kept_is : (h : Held) → commit_now h ≡ committed_row h ∷ []
@@ -26,15 +26,15 @@ unfolding commit_now committed_row
 kept_is h = refl
 
 later_adding : (h : Held) → is_adding h.pending ≡ true → pend_commit h ≡ committed_row h ∷ []
-unfolding pend_commit if◌then◌else◌ commit_now committed_row
+unfolding pend_commit if'◌then◌else◌ commit_now committed_row
 later_adding h e = rw e
 
 later_removing : (h : Held) → is_adding h.pending ≡ false → is_removing h.pending ≡ true → pend_commit h ≡ h ∷ []
-unfolding pend_commit if◌then◌else◌
+unfolding pend_commit if'◌then◌else◌
 later_removing h a e = rw (a, e)
 
 later_noted : (h : Held) → is_adding h.pending ≡ false → is_removing h.pending ≡ false → pend_commit h ≡ with_pending committing h ∷ []
-unfolding pend_commit if◌then◌else◌
+unfolding pend_commit if'◌then◌else◌
 later_noted h a e = rw (a, e)
 
 pub with_same : (q : Page) → with_tuples q q.tuples ≡ q

@@ -1,7 +1,7 @@
 -- A row goes on a page, or on a new page.
 use Rattle.basics.proofs.Kit.{◌≡◌, refl, sym, ap, ◌∙◌, subst, true, false, List, [], ◌∷◌, ◌++◌, map, ℕ, suc, ◌+◌, ◌*◌, ◌<◌, ◌-◌, length, take, drop, get_or, set, length-set, length-take-le}
 use Rattle.basics.proofs.Kit.{get_or-append_seam, set_at, arith}
-use Rattle.basics.specs.Basics.{if◌then◌else◌}
+use Rattle.basics.specs.Basics.{if'◌then◌else◌}
 use Rattle.block_forms.specs.Tuple.{Tuple}
 use Rattle.model.specs.State.{adding, Held, Page}
 use Rattle.model.specs.Rules.{split_once, fresh, without_pending, grown, entering, with_pending, with_tuples}
@@ -28,12 +28,12 @@ use Rattle.engine_pages.proofs.Removing.{page_less}
 
 grown_frozen : (q : Page) (x : Tuple) (j : ℕ) → q.frozen ≡ true
     → placed_on x j q ≡ with_tuples q (insert_at j (record { tuple = x; pending = adding }) q.tuples) ∷ []
-unfolding placed_on grown entering if◌then◌else◌
+unfolding placed_on grown entering if'◌then◌else◌
 grown_frozen q x j e = rw e
 
 grown_split : (q : Page) (x : Tuple) (j : ℕ) → q.frozen ≡ false
     → placed_on x j q ≡ map (fresh q.table) (split_once (insert_at j (without_pending x) q.tuples))
-unfolding placed_on grown entering without_pending if◌then◌else◌
+unfolding placed_on grown entering without_pending if'◌then◌else◌
 grown_split q x j e = rw e
 
 -- a row with nothing pending

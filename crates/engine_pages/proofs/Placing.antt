@@ -1,7 +1,7 @@
 -- Placing, by place: the model's walks from the back and from the front.
 use Rattle.basics.proofs.Kit.{◌≡◌, refl, sym, ap, ◌∙◌, Bool, true, false, cond, some, none, Option, Option·map, List, [], ◌∷◌, ◌++◌, append_assoc, ℕ, suc, ◌≤◌, ◌<◌, zero, leb, eqb, take}
 use Rattle.basics.proofs.Kit.{drop, take-append-drop, lt-ltb, le-ltb, eq-eqb, ne_eqb, arith}
-use Rattle.basics.specs.Basics.{if◌then◌else◌}
+use Rattle.basics.specs.Basics.{if'◌then◌else◌}
 use Rattle.block_forms.specs.Tuple.{Tuple}
 use Rattle.model.specs.State.{Held, Page}
 use Rattle.model.specs.Rules.{after, grown, entering, fresh, without_pending, place_after, place_front, place}
@@ -22,10 +22,10 @@ spotted zero x ys = none
 spotted (suc j) x ys = some (insert_at (suc j) x ys)
 
 unfoldable after_step : Bool → Held → Held → List Held → Option (List Held) → Option (List Held)
-after_step b y x ys o = elim o [ some zs ↦ some (y ∷ zs) | none ↦ if b then some (y ∷ x ∷ ys) else none ]
+after_step b y x ys o = elim o [ some zs ↦ some (y ∷ zs) | none ↦ if' b then some (y ∷ x ∷ ys) else none ]
 
 after_step_lem : (b : Bool) (y x : Held) (ys : List Held) (n : ℕ) → after_step b y x ys (spotted n x ys) ≡ spotted (past b n) x (y ∷ ys)
-unfolding after_step spotted past if◌then◌else◌
+unfolding after_step spotted past if'◌then◌else◌
 after_step_lem b y x ys (suc n) = refl
 after_step_lem true y x ys zero = refl
 after_step_lem false y x ys zero = refl
@@ -48,7 +48,7 @@ after_some x ys j e = after_at x ys ∙ ap (λ (n : ℕ). spotted n x ys) e
 -- ---- over the pages, from the back
 
 unfoldable place_step : Bool → Page → List Page → Option (List Held) → Option (List Page) → Option (List Page)
-place_step b p ps a o = elim o [ some qs ↦ some (p ∷ qs) | none ↦ if b then Option·map (λ ts. grown p ts ++ ps) a else none ]
+place_step b p ps a o = elim o [ some qs ↦ some (p ∷ qs) | none ↦ if' b then Option·map (λ ts. grown p ts ++ ps) a else none ]
 
 place_cons : (t : ℕ) (x : Tuple) (p : Page) (ps : List Page)
     → place_after t x (p ∷ ps) ≡ place_step (eqb p.table t) p ps (after (entering p x) p.tuples) (place_after t x ps)
@@ -61,21 +61,21 @@ entering_key p x = refl
 
 module _ (t k : ℕ) (x : Tuple) (ek : x.key ≡ k) (p : Page) (ps : List Page) (n : place_after t x ps ≡ none) where
   pub other_table : (p.table ≡ t → ⊥) → place_after t x (p ∷ ps) ≡ none
-  unfolding place_step if◌then◌else◌
+  unfolding place_step if'◌then◌else◌
   other_table e =
       place_cons t x p ps
       ∙ ap (place_step (eqb p.table t) p ps (after (entering p x) p.tuples)) n
       ∙ ap (λ (b : Bool). place_step b p ps (after (entering p x) p.tuples) none) (ne_eqb _ _ e)
 
   pub no_key : p.table ≡ t → last_index (key_up_to k) p.tuples ≡ 0 → place_after t x (p ∷ ps) ≡ none
-  unfolding place_step if◌then◌else◌
+  unfolding place_step if'◌then◌else◌
   no_key e z =
       let z1 : last_index (key_up_to (entering p x).tuple.key) p.tuples ≡ 0 = ap (λ (q : ℕ). last_index (key_up_to q) p.tuples) (entering_key p x ∙ ek) ∙ z in
       place_cons t x p ps
       ∙ (λ i. place_step (eq-eqb _ _ e i) p ps (after_none (entering p x) p.tuples z1 i) (n i))
 
   pub on_page : (j : ℕ) → p.table ≡ t → last_index (key_up_to k) p.tuples ≡ j → 0 < j → place_after t x (p ∷ ps) ≡ some (placed_on x j p ++ ps)
-  unfolding place_step if◌then◌else◌ placed_on
+  unfolding place_step if'◌then◌else◌ placed_on
   on_page zero e z h = absurd (omega arith)
   on_page (suc j) e z h =
       let z1 : last_index (key_up_to (entering p x).tuple.key) p.tuples ≡ suc j = ap (λ (q : ℕ). last_index (key_up_to q) p.tuples) (entering_key p x ∙ ek) ∙ z in
@@ -114,17 +114,17 @@ place_on t k x ps i j q ek ed n et ea h =
 
 module _ (t : ℕ) (x : Tuple) (q : Page) (qs : List Page) where
   front_lower : q.table < t → place_front t x (q ∷ qs) ≡ q ∷ place_front t x qs
-  unfolding place_front if◌then◌else◌
+  unfolding place_front if'◌then◌else◌
   front_lower h = simp (lt-ltb q.table t h)
 
   front_same : q.table ≡ t → place_front t x (q ∷ qs) ≡ placed_on x 0 q ++ qs
-  unfolding place_front if◌then◌else◌ placed_on
+  unfolding place_front if'◌then◌else◌ placed_on
   front_same e =
       let le : t ≤ q.table = omega arith in
       simp (le-ltb q.table t le, eq-eqb q.table t e)
 
   front_higher : t < q.table → place_front t x (q ∷ qs) ≡ fresh t (without_pending x ∷ []) ∷ (q ∷ qs)
-  unfolding place_front if◌then◌else◌
+  unfolding place_front if'◌then◌else◌
   front_higher h =
       let le : t ≤ q.table = omega arith in
       simp (le-ltb q.table t le, ne_eqb q.table t (λ e. omega arith))

@@ -1,7 +1,7 @@
 -- A removal, on a frozen page and on another.
 use Rattle.basics.proofs.Kit.{◌≡◌, refl, sym, ap, ◌∙◌, Bool, true, false, List, [], ◌∷◌, ◌++◌, ℕ, suc, ◌<◌, ◌-◌, length, take, drop, get_or, set, length-set}
 use Rattle.basics.proofs.Kit.{get_or-set_same, arith}
-use Rattle.basics.specs.Basics.{if◌then◌else◌}
+use Rattle.basics.specs.Basics.{if'◌then◌else◌}
 use Rattle.model.specs.State.{removing, Held, Page}
 use Rattle.model.specs.Rules.{is_adding, remove_now, with_pending, with_tuples, fresh, settle}
 use Rattle.model.specs.Places.{edit_at, pend_remove_at, remove_row_on, remove_row}
@@ -134,12 +134,12 @@ module _ {m : List ℕ} {p i : ℕ} (g : RowOn m p i) where
   -- ---- the rule
 
   pub removed_later : (page_at m p).frozen ≡ true → noted ≡ remove_row i (pages_of m)
-  unfolding remove_row remove_row_on if◌then◌else◌
+  unfolding remove_row remove_row_on if'◌then◌else◌
   removed_later e =
       sym (at_row_lem g remove_row_on ∙ on_swap a (remove_row_on j) (with_tuples (page_at m p) (pend_remove_at j hs) ∷ []) (λ prev qs. rw e refl))
 
   pub removed_now : (page_at m p).frozen ≡ false → settled_by p (new ∷ []) new (pages_of m) ≡ remove_row i (pages_of m)
-  unfolding remove_row remove_row_on settled_by if◌then◌else◌ remove_now
+  unfolding remove_row remove_row_on settled_by if'◌then◌else◌ remove_now
   removed_now e =
       let x : edit_at remove_now j hs ≡ remove_at j hs = edit_none remove_now no_row hs j (row_inside g) refl in
       sym (at_row_lem g remove_row_on ∙ on_same a (remove_row_on j) (λ prev r qs. settle (new ∷ []) prev new qs) (λ prev qs. rw (e, x) refl))

@@ -1,6 +1,6 @@
 -- A page that is split in two, and one that fits a block and stays.
 use Rattle.basics.proofs.Kit.{◌≡◌, refl, sym, ap, ◌∙◌, subst, Bool, true, false, List, [], ◌∷◌, map, ℕ, zero, suc, ◌+◌, ◌≤◌, ◌<◌, ◌-◌, length, take, drop, leb, leb-false, arith}
-use Rattle.basics.specs.Basics.{if◌then◌else◌, sum}
+use Rattle.basics.specs.Basics.{if'◌then◌else◌, sum}
 use Rattle.basics.proofs.Facts.{AllOf}
 use Rattle.block_forms.specs.Limits.{record_space}
 use Rattle.model.specs.State.{Held, Page}
@@ -24,7 +24,7 @@ deep_fits zero hs e = refl
 deep_fits (suc d) hs e = rw (e, split_deep) refl
 
 once_whole : (hs : List Held) → fits hs ≡ true → split_once hs ≡ hs ∷ []
-unfolding split_once if◌then◌else◌
+unfolding split_once if'◌then◌else◌
 once_whole hs h = rw h
 
 all_whole : (hs : List Held) → fits hs ≡ true → split_all hs ≡ hs ∷ []
@@ -32,7 +32,7 @@ unfolding split_all
 all_whole hs e = deep_fits (length hs) hs e
 
 pub once_parts : (t : ℕ) (hs : List Held) → fits hs ≡ false → map (fresh t) (split_once hs) ≡ fresh t (take (half hs) hs) ∷ fresh t (drop (half hs) hs) ∷ []
-unfolding split_once if◌then◌else◌
+unfolding split_once if'◌then◌else◌
 once_parts t hs h = rw h
 
 pub dirty_fresh : (q : Page) (t : ℕ) (hs : List Held) → q ≡ fresh t hs → Dirty q

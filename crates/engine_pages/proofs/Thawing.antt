@@ -1,6 +1,6 @@
 -- Thawing the first frozen page: the model's rule by place.
 use Rattle.basics.proofs.Kit.{◌≡◌, refl, sym, ap, ◌∙◌, subst, Bool, true, false, none, Option, List, [], ◌∷◌, ◌++◌, map, ℕ, arith}
-use Rattle.basics.specs.Basics.{if◌then◌else◌, any, sum}
+use Rattle.basics.specs.Basics.{if'◌then◌else◌, any, sum}
 use Rattle.model.specs.State.{Held, Page}
 use Rattle.model.specs.Rules.{held_size, is_frozen, fresh, list_of, split_all, settle, thaw_on, thaw}
 use Rattle.model.specs.Places.{on_page}
@@ -23,12 +23,12 @@ use Rattle.engine_pages.proofs.Applying.{applied_live}
 
 thaw_clean : (b : ℕ) (prev : Option Page) (q : Page) (qs : List Page) → any has_pending q.tuples ≡ false
     → thaw_on b prev q qs ≡ list_of prev ++ record { table = q.table; block = b; frozen = false; tuples = q.tuples } ∷ qs
-unfolding thaw_on if◌then◌else◌
+unfolding thaw_on if'◌then◌else◌
 thaw_clean b prev q qs e = rw e refl
 
 thaw_changed : (b : ℕ) (prev : Option Page) (q : Page) (qs : List Page) → any has_pending q.tuples ≡ true
     → thaw_on b prev q qs ≡ settle (map (fresh q.table) (split_all (applied_all q.tuples))) prev (fresh q.table (applied_all q.tuples)) qs
-unfolding thaw_on if◌then◌else◌
+unfolding thaw_on if'◌then◌else◌
 thaw_changed b prev q qs e =
     rw e (ap (λ (hs : List Held). settle (map (fresh q.table) (split_all hs)) prev (fresh q.table hs) qs) (sym (applied_live q.tuples)))
 

@@ -1,6 +1,6 @@
 -- Pending operations that are applied.
 use Rattle.std.specs.Prelude.{ℕ, ◌+◌, ◌-◌, ◌≡◌, Bool, List, [], ◌∷◌, ◌++◌, length, take, drop, set}
-use Rattle.basics.specs.Basics.{if◌then◌else◌}
+use Rattle.basics.specs.Basics.{if'◌then◌else◌}
 use Rattle.model.specs.State.{Held}
 use Rattle.model.specs.Rules.{is_pending, is_removing, without_pending, applied, fresh, is_frozen}
 use Rattle.basics.specs.Lists.{first_index}
@@ -14,7 +14,7 @@ has_pending h = is_pending h.pending
 
 -- what becomes of a tuple: one pending removal is gone, any other stays with its operation done
 unfoldable pub apply_pending : Held → List Held
-apply_pending h = if is_removing h.pending then [] else without_pending (applied h) ∷ []
+apply_pending h = if' is_removing h.pending then [] else without_pending (applied h) ∷ []
 
 -- what becomes of tuples, one after the other
 unfoldable pub applied_all : List Held → List Held

@@ -1,7 +1,7 @@
 -- What a run of rows shows, row by row.
 use Rattle.basics.proofs.Kit.{◌≡◌, refl, ap, ◌∙◌, true, false, List, [], ◌∷◌, ◌++◌, append-nil, ℕ, suc, ◌+◌, ◌≤◌, ◌<◌, ◌-◌, add-one, length, take, drop, get_or}
 use Rattle.basics.proofs.Kit.{drop-cons, drop-drop, take-add, arith}
-use Rattle.basics.specs.Basics.{if◌then◌else◌, sum}
+use Rattle.basics.specs.Basics.{if'◌then◌else◌, sum}
 use Rattle.basics.proofs.Facts.{by}
 use Rattle.block_forms.specs.Tuple.{Tuple, sizes}
 use Rattle.model.specs.State.{Held}
@@ -40,7 +40,7 @@ unfolding shown
 shown_none hs s = ap shown (run_none hs s)
 
 shown_append : (xs ys : List Held) → shown (xs ++ ys) ≡ shown xs ++ shown ys
-unfolding shown if◌then◌else◌
+unfolding shown if'◌then◌else◌
 shown_append [] ys = refl
 shown_append (x ∷ xs) ys = by (is_adding x.pending) (λ a. rw (a, shown_append xs ys)) (λ a. rw (a, shown_append xs ys))
 
@@ -59,9 +59,9 @@ module _ (hs : List Held) (s i : ℕ) (l : s ≤ i) where
     next = ap shown (run_two hs s i (i + 1) l (omega arith) ∙ ap (λ z. run hs s i ++ z) (run_one hs i h)) ∙ shown_append (run hs s i) (get_or hs i no_row ∷ [])
 
     pub shown_more : is_adding (get_or hs i no_row).pending ≡ false → shown (run hs s (i + 1)) ≡ shown (run hs s i) ++ ((get_or hs i no_row).tuple ∷ [])
-    unfolding shown if◌then◌else◌
+    unfolding shown if'◌then◌else◌
     shown_more a = next ∙ rw a
 
     pub shown_same : is_adding (get_or hs i no_row).pending ≡ true → shown (run hs s (i + 1)) ≡ shown (run hs s i)
-    unfolding shown if◌then◌else◌
+    unfolding shown if'◌then◌else◌
     shown_same a = next ∙ rw a (append-nil (shown (run hs s i)))

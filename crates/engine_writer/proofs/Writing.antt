@@ -1,6 +1,6 @@
 -- A row's record on a page: its size, and that it can be appended; a page while its rows are measured and written.
 use Rattle.basics.proofs.Kit.{◌≡◌, refl, sym, ap, ◌∙◌, subst, true, false, List, [], ◌∷◌, ◌++◌, ℕ, ◌+◌, ◌*◌, ◌≤◌, ◌<◌, leb, length, length-append, arith}
-use Rattle.basics.specs.Basics.{if◌then◌else◌, sum}
+use Rattle.basics.specs.Basics.{if'◌then◌else◌, sum}
 use Rattle.block_forms.specs.Limits.{page_head_size, record_space, most_record, block_size}
 use Rattle.block_forms.specs.Tuple.{Tuple, size, sizes, OwnerFits, Fits}
 use Rattle.block_forms.specs.Block.{page, encode_block, PageFits}
@@ -100,9 +100,9 @@ empty_page {t} {l} ht hl = whole_page t l [] (record { table = ht; level = hl; t
 
 module _ {w : Shown} {ts : List Tuple} (d : Measures w ts) where
   pub storable_all : leb w.bytes record_space ≡ true → storable ts ≡ ts
-  unfolding storable if◌then◌else◌
+  unfolding storable if'◌then◌else◌
   storable_all h = rw (ap (λ (z : ℕ). leb z record_space) (sym d.bytes) ∙ h)
 
   pub storable_none : leb w.bytes record_space ≡ false → storable ts ≡ []
-  unfolding storable if◌then◌else◌
+  unfolding storable if'◌then◌else◌
   storable_none h = rw (ap (λ (z : ℕ). leb z record_space) (sym d.bytes) ∙ h)

@@ -3,7 +3,7 @@ use Rattle.block_forms.specs.Limits.{block_size}
 use Rattle.basics.proofs.Kit.{◌≡◌, refl, sym, ap, ◌∙◌, Bool, true, false, ◌&&◌, some, none, Option, Option·map, List, [], ◌∷◌, ◌++◌, append_assoc, append-nil, map, ℕ, suc, ◌+◌, ◌*◌, ◌≤◌}
 use Rattle.basics.proofs.Kit.{◌<◌, ◌/◌, ◌-◌, leb, ltb, length, take, drop, get_or, length-append, length-take, length-drop, drop_of_length-le, le-leb, leb-true, lt-leb, leb-false}
 use Rattle.basics.proofs.Kit.{ltb-true, arith}
-use Rattle.basics.specs.Basics.{if◌then◌else◌, all, every}
+use Rattle.basics.specs.Basics.{if'◌then◌else◌, all, every}
 use Rattle.basics.proofs.Facts.{by, by-option, never, and_true, clash}
 use Rattle.basics.proofs.Elements.{some_eq}
 use Rattle.basics.proofs.Lists.{map_append, all_get, all_join, behind_none, behind_two}
@@ -54,7 +54,7 @@ no-good {ℓ} : {X : Type ℓ} {t n : ℕ} → Bad ≡ Good t n → X
 no-good e = clash cc
 
 pub goods : (l room : ℕ) (o : Option PageBlock) {t n : ℕ} → good_page l room o ≡ Good t n → Goods l room t n o
-unfolding good_page if◌then◌else◌ every
+unfolding good_page if'◌then◌else◌ every
 goods l room none e = no-good e
 goods l room (some p) {t} {n} e =
     by (page_ok l p && (leb (length p.tuples) room && (all mark_ok (rows_of p.table p.tuples) && true)))
@@ -79,7 +79,7 @@ goods l room (some p) {t} {n} e =
 -- a good page is one more
 page_added : (l room t n e : ℕ) (o : Option PageBlock) (g : Goods l room t n o) (more : Option (List StoredPage))
     → add_page l e o more ≡ Option·map (λ ps. record { block = e; table = t; tuples = g.tuples } ∷ ps) more
-unfolding add_page if◌then◌else◌
+unfolding add_page if'◌then◌else◌
 page_added l room t n e o g more = rw (g.is, g.right)
 
 -- the first of some pages, and those after it
@@ -92,7 +92,7 @@ pub record First (l e : ℕ) (o : Option PageBlock) (more : Option (List StoredP
   pub are : ps ≡ stored_page e page ∷ others
 
 pub first_page : (l e : ℕ) (o : Option PageBlock) (more : Option (List StoredPage)) {ps : List StoredPage} → add_page l e o more ≡ some ps → First l e o more ps
-unfolding add_page if◌then◌else◌
+unfolding add_page if'◌then◌else◌
 first_page l e none more q = never q
 first_page l e (some p) none q = by (page_ok l p) (λ r. never (rw r at q)) (λ r. never (rw r at q))
 first_page l e (some p) (some qs) q =
@@ -121,7 +121,7 @@ mark_wrong cap next rs e = rows_tests cap next rs ∙ rw (e, and_no, and_no)
 -- no list of pages that goes on with it passes: it has too many tuples, or a wrong delete mark
 module _ (l room cap next e : ℕ) (done : List StoredPage) (full : length (rows_of_pages done) + room ≡ cap) where
   bad_rows : (p : PageBlock) → good_page l room (some p) ≡ Bad → page_ok l p ≡ true → (qs : List StoredPage) → rows_ok cap next (rows_of_pages (done ++ (stored_page e p ∷ qs))) ≡ false
-  unfolding rows_of_pages good_page if◌then◌else◌ every
+  unfolding rows_of_pages good_page if'◌then◌else◌ every
   bad_rows p bad right qs =
       let own : List Row = rows_of p.table p.tuples in
       let ps : List StoredPage = done ++ (stored_page e p ∷ qs) in
@@ -151,8 +151,8 @@ module _ (l room cap next e : ℕ) (done : List StoredPage) (full : length (rows
 
 -- ---- the turns
 
-accepted : {A : Type 0} (b : Bool) (x : A) → accepts (if b then holds x else refuses 24) ≡ b
-unfolding accepts if◌then◌else◌
+accepted : {A : Type 0} (b : Bool) (x : A) → accepts (if' b then holds x else refuses 24) ≡ b
+unfolding accepts if'◌then◌else◌
 accepted true x = refl
 accepted false x = refl
 
@@ -192,7 +192,7 @@ module _ {v : View} {h : Header} {es : List ℕ} {i to : ℕ} {columns : List Ro
 
   -- all pages are read
   pub collecting_end : length es ≤ i → columns_ok h.next columns ≡ accepts (page_test v h es)
-  unfolding page_test tested_pages read_pages accepts if◌then◌else◌
+  unfolding page_test tested_pages read_pages accepts if'◌then◌else◌
   collecting_end l =
       let rs = rows_of_pages a.done in
       let q : read_pages v h.level es ≡ some a.done = a.rest ∙ rw (drop_end es i l) (ap some (append-nil a.done)) in
@@ -200,7 +200,7 @@ module _ {v : View} {h : Header} {es : List ℕ} {i to : ℕ} {columns : List Ro
       ∙ sym (rw (q, rows_tests h.capacity h.next rs, le-leb (length rs) h.capacity (omega (arith, a.count, a.room)), a.marks, and_yes) (accepted _ a.done))
 
   pub collecting_bad : i < length es → good_page h.level (h.capacity - to) (as_page (v (get_or es i 0))) ≡ Bad → false ≡ accepts (page_test v h es)
-  unfolding page_test tested_pages accepts if◌then◌else◌
+  unfolding page_test tested_pages accepts if'◌then◌else◌
   collecting_bad l bad =
       let f : length (rows_of_pages a.done) + (h.capacity - to) ≡ h.capacity = omega (arith, a.count, a.room) in
       by-option (read_pages v h.level es) (λ q. rw q)

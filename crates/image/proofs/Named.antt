@@ -1,7 +1,7 @@
 -- The entries of directory blocks, one block after another.
 use Rattle.basics.proofs.Kit.{◌≡◌, refl, sym, ap, ◌∙◌, subst, Bool, true, false, ◌&&◌, some, none, Option, Option·map, List, [], ◌++◌, append-nil, ℕ, ◌+◌, ◌≤◌}
 use Rattle.basics.proofs.Kit.{◌<◌, ◌-◌, min, eqb, length, take, drop, get_or, length-append, eqb-true, eq-eqb, ne_eqb, arith}
-use Rattle.basics.specs.Basics.{if◌then◌else◌}
+use Rattle.basics.specs.Basics.{if'◌then◌else◌}
 use Rattle.basics.proofs.Facts.{by, never, lie, and_true}
 use Rattle.basics.proofs.Elements.{some_eq}
 use Rattle.basics.proofs.Lists.{behind_none, behind_two}
@@ -36,22 +36,22 @@ read xs e =
     record { entries = d.entries; is = d.is; count = d.count; read = subst (λ m. read_entries xs 64 m ≡ d.entries) d.count (decode_entries xs d.is) }
 
 module _ (l p : ℕ) {n k : ℕ} {xs : List ℕ} (r : Read n k xs) where
-  due_is : entries_due l p (as_directory (decode_block xs)) ≡ (if eqb k l && eqb n (min entries_per_block p) then some r.entries else none)
+  due_is : entries_due l p (as_directory (decode_block xs)) ≡ (if' eqb k l && eqb n (min entries_per_block p) then some r.entries else none)
   unfolding entries_due
   due_is = rw (r.is, r.count)
 
   pub other_level : (k ≡ l → ⊥) → entries_due l p (as_directory (decode_block xs)) ≡ none
-  unfolding if◌then◌else◌
+  unfolding if'◌then◌else◌
   other_level h = due_is ∙ rw (ne_eqb k l h)
 
   pub other_count : (n ≡ min entries_per_block p → ⊥) → entries_due l p (as_directory (decode_block xs)) ≡ none
-  unfolding if◌then◌else◌
+  unfolding if'◌then◌else◌
   other_count h = due_is ∙ rw (ne_eqb n (min entries_per_block p) h, and_no)
 
   -- its entries, put over those of out
   pub entries_put : (at : ℕ) (out : List ℕ) {out' : List ℕ} (es : List ℕ) → k ≡ l → n ≡ min entries_per_block p → take n es ≡ read_entries xs 64 n
       → out' ≡ over out at (take n es) → Filled (entries_due l p (as_directory (decode_block xs))) at out true out'
-  unfolding if◌then◌else◌
+  unfolding if'◌then◌else◌
   entries_put at out es hk hn he ho =
       let e : entries_due l p (as_directory (decode_block xs)) ≡ some r.entries = due_is ∙ rw (eq-eqb k l hk, eq-eqb n (min entries_per_block p) hn) in
       rw e (refl, ho ∙ ap (over out at) (he ∙ r.read))
@@ -61,7 +61,7 @@ not_put o at out out' e = rw e refl
 
 -- as many as are due
 pub due_count : (l p : ℕ) (o : Option DirectoryBlock) {es : List ℕ} → entries_due l p o ≡ some es → length es ≡ min entries_per_block p
-unfolding entries_due if◌then◌else◌
+unfolding entries_due if'◌then◌else◌
 due_count l p none e = never e
 due_count l p (some d) e =
     by (eqb d.level l && eqb (length d.entries) (min entries_per_block p))

@@ -1,7 +1,7 @@
 -- The stages of the tests, put together.
 use Rattle.basics.proofs.Kit.{◌≡◌, refl, sym, ap, ◌∙◌, Bool, true, false, some, none, Option, List, [], ◌∷◌, ◌++◌, map, ℕ, ◌+◌, ◌*◌, ◌%◌, ◌≤◌, ◌<◌, ◌/◌, ◌-◌}
 use Rattle.basics.proofs.Kit.{length, take, drop, length-append, length-take, length-replicate, take_at, le-leb, lt-leb, eq-eqb, ne_eqb, arith}
-use Rattle.basics.specs.Basics.{if◌then◌else◌, all, every}
+use Rattle.basics.specs.Basics.{if'◌then◌else◌, all, every}
 use Rattle.basics.proofs.Facts.{by, by-option, never, lie, and_true, clash}
 use Rattle.basics.proofs.Elements.{some_eq, every_all}
 use Rattle.basics.specs.Lists.{over}
@@ -30,7 +30,7 @@ use Rattle.image.proofs.Named.{due_count, filled_yes, filled_not}
 
 module _ (xs : List ℕ) where
   ragged : whole_blocks (length xs) ≡ false → Refused 1 ≡ header_answer (header_stage xs)
-  unfolding header_stage header_answer if◌then◌else◌
+  unfolding header_stage header_answer if'◌then◌else◌
   ragged e = rw e
 
   pub not_whole : (length xs % block_size ≡ 0 → ⊥) → Refused 1 ≡ header_answer (header_stage xs)
@@ -48,16 +48,16 @@ module _ (xs : List ℕ) where
   module _ (w : length xs % block_size ≡ 0) (l : 2 ≤ length xs / block_size) (m : length xs / block_size ≤ block_limit) (bs : List ℕ) (b : bs ≡ block_at xs 0) where
     -- the first block decides
     pub by_block : header_test (length xs / block_size) (as_header (decode_block bs)) ≡ header_stage xs
-    unfolding header_stage whole_blocks block_count view if◌then◌else◌
+    unfolding header_stage whole_blocks block_count view if'◌then◌else◌
     by_block = rw (b, eq-eqb (length xs % block_size) 0 w, le-leb 2 (length xs / block_size) l, le-leb (length xs / block_size) block_limit m)
 
 module _ (n : ℕ) where
   pub header_yes : (b : Block) {h : Header} → IsHeader h ≡ reading b → header_ok n h ≡ true → Passed h ≡ header_answer (header_test n (as_header b))
-  unfolding header_answer header_test if◌then◌else◌
+  unfolding header_answer header_test if'◌then◌else◌
   header_yes b e t = rw (is_header_lem b e, t)
 
   pub header_no : (b : Block) {h : Header} → IsHeader h ≡ reading b → header_ok n h ≡ false → Refused 22 ≡ header_answer (header_test n (as_header b))
-  unfolding header_answer header_test if◌then◌else◌
+  unfolding header_answer header_test if'◌then◌else◌
   header_no b e t = rw (is_header_lem b e, t)
 
   pub other_header : (b : Block) → as_header b ≡ none → Refused 22 ≡ header_answer (header_test n (as_header b))
@@ -76,13 +76,13 @@ pub holds_eq : {A : Type 0} {a b : A} → holds a ≡ holds b → a ≡ b
 holds_eq e = cc
 
 tested_ok : (n : ℕ) (o : Option Header) (h : Header) → header_test n o ≡ holds h → header_ok n h ≡ true
-unfolding header_test if◌then◌else◌
+unfolding header_test if'◌then◌else◌
 tested_ok n none h e = refuses-holds e
 tested_ok n (some g) h e =
     by (header_ok n g) (λ t. let q : g ≡ h = holds_eq (rw t at e) in rw (← q) t) (λ t. refuses-holds (rw t at e))
 
 pub passing : (xs : List ℕ) (h : Header) → header_stage xs ≡ holds h → Passing xs h
-unfolding header_stage header_ok if◌then◌else◌
+unfolding header_stage header_ok if'◌then◌else◌
 passing xs h e =
     by (whole_blocks (length xs))
     (λ w.
@@ -135,16 +135,16 @@ module _ (v : View) (h : Header) where
 
   module _ (es : List ℕ) (e : entries_read ≡ some es) where
     pub bad_entries : entries_ok h.blocks (directory_blocks h) es ≡ false → pages_stage v h ≡ refuses 23
-    unfolding pages_stage pages_below directory_test tested_entries if◌then◌else◌
+    unfolding pages_stage pages_below directory_test tested_entries if'◌then◌else◌
     bad_entries t = rw (e, t)
 
     module _ (t : entries_ok h.blocks (directory_blocks h) es ≡ true) where
       by_pages : pages_stage v h ≡ page_test v h es
-      unfolding pages_stage pages_below directory_test tested_entries if◌then◌else◌
+      unfolding pages_stage pages_below directory_test tested_entries if'◌then◌else◌
       by_pages = rw (e, t)
 
       pages_refused : (o : Option (List StoredPage)) → accepts (tested_pages h o) ≡ false → tested_pages h o ≡ refuses 24
-      unfolding accepts tested_pages if◌then◌else◌
+      unfolding accepts tested_pages if'◌then◌else◌
       pages_refused none q = refl
       pages_refused (some ps) q =
           by (rows_ok h.capacity h.next (rows_of_pages ps))
@@ -157,7 +157,7 @@ module _ (v : View) (h : Header) where
 
       pages_accepted : (o : Option (List StoredPage)) → read_pages v h.level es ≡ o → accepts (tested_pages h o) ≡ true
           → pages_answer (tested_pages h o) ≡ record { refusal = 0; entries = over no_entries 0 es }
-      unfolding accepts tested_pages pages_answer entries_in if◌then◌else◌
+      unfolding accepts tested_pages pages_answer entries_in if'◌then◌else◌
       pages_accepted none r q = lie q
       pages_accepted (some ps) r q =
           by (rows_ok h.capacity h.next (rows_of_pages ps))
@@ -177,7 +177,7 @@ pub record Tested (v : View) (h : Header) (ps : List StoredPage) : Type 0 where
   pub rows_ok : rows_ok h.capacity h.next (rows_of_pages ps) ≡ true
 
 pub tested : (v : View) (h : Header) (ps : List StoredPage) → pages_stage v h ≡ holds ps → Tested v h ps
-unfolding pages_stage pages_below directory_test tested_entries page_test tested_pages if◌then◌else◌
+unfolding pages_stage pages_below directory_test tested_entries page_test tested_pages if'◌then◌else◌
 tested v h ps e =
     by-option (read_directories v h.level h.pages (directory_blocks h))
     (λ b. refuses-holds (rw b at e))
@@ -281,7 +281,7 @@ module _ {xs : List ℕ} {h : Header} {pages used : ℕ} where
 -- no stage refuses with the number 0
 module _ (v : View) (h : Header) (n : ℕ) where
   entries_number : (o : Option (List ℕ)) → tested_entries h o ≡ refuses n → 0 < n
-  unfolding tested_entries if◌then◌else◌
+  unfolding tested_entries if'◌then◌else◌
   entries_number none e = let z : n ≡ 23 = cc in omega arith
   entries_number (some es) e =
       by (entries_ok h.blocks (directory_blocks h) es)
@@ -289,7 +289,7 @@ module _ (v : View) (h : Header) (n : ℕ) where
       (λ t. let k : ◌≡◌ {A = Stage (List ℕ)} (refuses 23) (refuses n) = rw t at e in let z : n ≡ 23 = cc in omega arith)
 
   pages_number : (o : Option (List StoredPage)) → tested_pages h o ≡ refuses n → 0 < n
-  unfolding tested_pages if◌then◌else◌
+  unfolding tested_pages if'◌then◌else◌
   pages_number none e = let z : n ≡ 24 = cc in omega arith
   pages_number (some ps) e =
       by (rows_ok h.capacity h.next (rows_of_pages ps))

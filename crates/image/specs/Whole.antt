@@ -1,6 +1,6 @@
 -- What any list of bytes is as an image: a refusal, or what it holds.
 use Rattle.std.specs.Prelude.{ℕ, List, length}
-use Rattle.basics.specs.Basics.{if◌then◌else◌}
+use Rattle.basics.specs.Basics.{if'◌then◌else◌}
 use Rattle.block_forms.specs.Block.{as_header}
 use Rattle.block_forms.specs.declared.Header.{Header}
 use Rattle.image.specs.View.{View, view, block_count}
@@ -13,7 +13,7 @@ pub record Contents : Type 0 where
 
 -- tests 1 and 22
 unfoldable pub header_stage : List ℕ → Stage Header
-header_stage bytes = if whole_blocks (length bytes) then header_test (block_count bytes) (as_header (view bytes 0)) else refuses 1
+header_stage bytes = if' whole_blocks (length bytes) then header_test (block_count bytes) (as_header (view bytes 0)) else refuses 1
 
 -- test 24, by the answer of test 23
 unfoldable pub pages_below : View → Header → Stage (List ℕ) → Stage (List StoredPage)

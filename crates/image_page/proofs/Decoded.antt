@@ -1,6 +1,6 @@
 -- What a page that was read says of its bytes, and what its tests make of it.
 use Rattle.basics.proofs.Kit.{◌≡◌, sym, ◌∙◌, subst, true, false, some, List, [], ◌∷◌, ℕ, leb, length}
-use Rattle.basics.specs.Basics.{if◌then◌else◌, all, every}
+use Rattle.basics.specs.Basics.{if'◌then◌else◌, all, every}
 use Rattle.block_forms.specs.Tuple.{Tuple}
 use Rattle.block_forms.specs.Block.{as_page}
 use Rattle.block_forms.specs.Decode.{page_tuples, decode_block}
@@ -29,15 +29,15 @@ passed xs e =
 module _ (l room : ℕ) {t n k : ℕ} {xs : List ℕ} (p : Passed t n k xs) where
   -- the tests of a page in the order of the code
   good_is : good_page l room (as_page (decode_block xs))
-      ≡ (if every (leb 1 n ∷ leb 1 k ∷ leb k l ∷ leb n room ∷ all mark_ok (rows_of t p.tuples) ∷ []) then Good t n else Bad)
+      ≡ (if' every (leb 1 n ∷ leb 1 k ∷ leb k l ∷ leb n room ∷ all mark_ok (rows_of t p.tuples) ∷ []) then Good t n else Bad)
   unfolding good_page page_ok every
   good_is = rw (p.is, any_there p.tuples, p.count, and_assoc, and_assoc)
 
   -- a test that failed
   pub good_not : every (leb 1 n ∷ leb 1 k ∷ leb k l ∷ leb n room ∷ all mark_ok (rows_of t p.tuples) ∷ []) ≡ false → Bad ≡ good_page l room (as_page (decode_block xs))
-  unfolding if◌then◌else◌
+  unfolding if'◌then◌else◌
   good_not e = sym (good_is ∙ rw e)
 
   pub good_yes : every (leb 1 n ∷ leb 1 k ∷ leb k l ∷ leb n room ∷ all mark_ok (rows_of t p.tuples) ∷ []) ≡ true → Good t n ≡ good_page l room (as_page (decode_block xs))
-  unfolding if◌then◌else◌
+  unfolding if'◌then◌else◌
   good_yes e = sym (good_is ∙ rw e)

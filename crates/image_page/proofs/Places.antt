@@ -2,7 +2,7 @@
 use Rattle.basics.proofs.Kit.{◌≡◌, refl, ◌∙◌, Bool, true, false, not, List, [], ◌∷◌, ◌++◌, ℕ, ◌+◌, ◌*◌, ◌%◌, ◌<◌, ◌/◌, ◌-◌, leb, eqb, length, set, get_or-set_same}
 use Rattle.basics.proofs.Kit.{get_or-set_other, ne_eqb, arith}
 use mir.Val.{bool_byte}
-use Rattle.basics.specs.Basics.{if◌then◌else◌}
+use Rattle.basics.specs.Basics.{if'◌then◌else◌}
 use Rattle.block_forms.specs.Limits.{statement_limit}
 use Rattle.block_forms.specs.Tuple.{tentative, is_tentative}
 use Rattle.block_forms.specs.Bytes.{owner_is, tuple_of}
@@ -16,7 +16,7 @@ use Rattle.basics.proofs.Elements.{empty_length}
 -- ---- the row of a record
 
 pub owner_coded : {t s o : ℕ} → o ≡ 1 + t * statement_limit + s → s < statement_limit → coded_owner o ≡ tentative t s
-unfolding coded_owner if◌then◌else◌
+unfolding coded_owner if'◌then◌else◌
 owner_coded {t} {s} {o} e h =
     let a : (o - 1) / statement_limit ≡ t = omega arith in
     let b : (o - 1) % statement_limit ≡ s = omega arith in

@@ -1,7 +1,7 @@
 -- What a page block may be: the tests of refusal 24 on one page.
 use Rattle.std.specs.Prelude.{ℕ, Bool, not, ◌&&◌, [], ◌∷◌, length, leb}
 use Rattle.std.proofs.Math.Option.{Option, none, some}
-use Rattle.basics.specs.Basics.{if◌then◌else◌, all, every, is_empty}
+use Rattle.basics.specs.Basics.{if'◌then◌else◌, all, every, is_empty}
 use Rattle.block_forms.specs.Block.{PageBlock}
 use Rattle.image_rows.specs.Rows.{rows_of, mark_ok}
 use Rattle.image_page.specs.declared.GoodPage.{GoodPage}
@@ -15,4 +15,4 @@ page_ok l p = not (is_empty p.tuples) && (leb 1 p.level && leb p.level l)
 unfoldable pub good_page : ℕ → ℕ → Option PageBlock → GoodPage
 good_page l room none = Bad
 good_page l room (some p) =
-    if every (page_ok l p ∷ leb (length p.tuples) room ∷ all mark_ok (rows_of p.table p.tuples) ∷ []) then Good p.table (length p.tuples) else Bad
+    if' every (page_ok l p ∷ leb (length p.tuples) room ∷ all mark_ok (rows_of p.table p.tuples) ∷ []) then Good p.table (length p.tuples) else Bad

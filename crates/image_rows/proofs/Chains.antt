@@ -1,7 +1,7 @@
 -- The hash table: what `last_by` finds, one step along a chain, and one more row linked.
 use Rattle.basics.proofs.Kit.{◌≡◌, refl, sym, ap, ◌∙◌, Bool, true, false, ◌&&◌, List, ℕ, suc, ◌+◌, ◌%◌, ◌≤◌, ◌<◌, zero, ◌-◌, add-one, eqb, ltb, length, get_or, set, length-set}
 use Rattle.basics.proofs.Kit.{length-replicate, replicate, get_or-replicate, get_or-set_same, get_or-set_other, lt-ltb, eqb-true, eq-eqb, ne_eqb, eqb-false, ltb-true, arith}
-use Rattle.basics.specs.Basics.{if◌then◌else◌, all}
+use Rattle.basics.specs.Basics.{if'◌then◌else◌, all}
 use Rattle.basics.proofs.Facts.{by, lie, and_true}
 use Rattle.basics.specs.Lists.{tab}
 use Rattle.image_rows.specs.Chains.{bucket_count, last_by, bucket_of, in_bucket, Chained, Table, Chain, is_new, keys_once, is_there_below, is_next}
@@ -13,26 +13,26 @@ use Rattle.block_forms.specs.Limits.{statement_limit}
 
 module _ (f : ℕ → Bool) (xs : List ℕ) where
   pub last_yes : (n : ℕ) → f (get_or xs n 0) ≡ true → last_by f xs (n + 1) ≡ n + 1
-  unfolding last_by if◌then◌else◌
+  unfolding last_by if'◌then◌else◌
   last_yes n t = rw (add-one n, t)
 
   pub last_not : (n : ℕ) → f (get_or xs n 0) ≡ false → last_by f xs (n + 1) ≡ last_by f xs n
-  unfolding last_by if◌then◌else◌
+  unfolding last_by if'◌then◌else◌
   last_not n t = rw (add-one n, t)
 
   pub last_le : (n : ℕ) → last_by f xs n ≤ n
-  unfolding last_by if◌then◌else◌
+  unfolding last_by if'◌then◌else◌
   last_le zero = omega arith
   last_le (suc n) = by (f (get_or xs n 0)) (λ t. rw t (omega arith)) (λ t. rw t (omega (arith, last_le n)))
 
   pub last_last : (n : ℕ) → last_by f xs (last_by f xs n) ≡ last_by f xs n
-  unfolding last_by if◌then◌else◌
+  unfolding last_by if'◌then◌else◌
   last_last zero = refl
   last_last (suc n) = by (f (get_or xs n 0)) (λ t. rw (t, last_by, t)) (λ t. rw t (last_last n))
 
   -- what is found passes
   pub last_passes : (n j : ℕ) → last_by f xs n ≡ suc j → f (get_or xs j 0) ≡ true
-  unfolding last_by if◌then◌else◌
+  unfolding last_by if'◌then◌else◌
   last_passes zero j e = absurd (omega arith)
   last_passes (suc n) j e =
       by (f (get_or xs n 0))
@@ -41,7 +41,7 @@ module _ (f : ℕ → Bool) (xs : List ℕ) where
 
   -- where one passes, one is found
   pub last_there : (n k : ℕ) → k < n → f (get_or xs k 0) ≡ true → 0 < last_by f xs n
-  unfolding last_by if◌then◌else◌
+  unfolding last_by if'◌then◌else◌
   last_there zero k h t = absurd (omega arith)
   last_there (suc n) k h t =
       by (f (get_or xs n 0))
@@ -52,7 +52,7 @@ module _ (f : ℕ → Bool) (xs : List ℕ) where
 
 -- a search may pass over what another test refuses
 pub last_skips : (f g : ℕ → Bool) (xs : List ℕ) → ((y : ℕ) → f y ≡ true → g y ≡ true) → (n : ℕ) → last_by f xs n ≡ last_by f xs (last_by g xs n)
-unfolding last_by if◌then◌else◌
+unfolding last_by if'◌then◌else◌
 last_skips f g xs w zero = refl
 last_skips f g xs w (suc n) =
     by (g (get_or xs n 0))
@@ -104,7 +104,7 @@ module _ {xs links : List ℕ} {j x : ℕ} (c : Chain xs links j x) (pos : 0 < j
 -- ---- the table
 
 bucket_less : (x : ℕ) → bucket_of x ≤ bucket_count
-unfolding bucket_of if◌then◌else◌
+unfolding bucket_of if'◌then◌else◌
 bucket_less x = by (eqb x 0) (λ t. rw t (omega arith)) (λ t. rw t (omega arith))
 
 -- no row yet

@@ -1,7 +1,7 @@
 -- Where statements are in order, each transaction has one row of statement 0, so these rows count the transactions.
 use Rattle.basics.proofs.Kit.{◌≡◌, refl, sym, ap, ◌∙◌, true, false, ◌&&◌, not, List, [], ◌∷◌, ℕ, ◌+◌, ◌<◌, eqb, length, get_or, eqb-true, eqb-false, not-true}
 use Rattle.basics.proofs.Kit.{arith}
-use Rattle.basics.specs.Basics.{if◌then◌else◌, any, is_in, distinct, one_if}
+use Rattle.basics.specs.Basics.{if'◌then◌else◌, any, is_in, distinct, one_if}
 use Rattle.basics.proofs.Facts.{by, and_true}
 use Rattle.block_forms.specs.Tuple.{Owner, committed, tentative}
 use Rattle.image_rows.specs.Rows.{Row, is_own, add_owner, transactions}
@@ -18,7 +18,7 @@ use Rattle.basics.proofs.Elements.{in_head, in_weak}
 -- ---- the list of transactions
 
 added_distinct : (o : Owner) (ts : List ℕ) → distinct ts ≡ true → distinct (add_owner o ts) ≡ true
-unfolding add_owner distinct if◌then◌else◌
+unfolding add_owner distinct if'◌then◌else◌
 added_distinct committed ts d = d
 added_distinct (tentative t s) ts d = by (is_in t ts) (λ h. rw h d) (λ h. rw (h, h) d)
 

@@ -1,7 +1,7 @@
 -- Rows that are changed but for what a test looks at: the test answers the same. So the tests read columns with the others missing, and rows
 -- without payloads.
 use Rattle.basics.proofs.Kit.{◌≡◌, refl, sym, ap, ◌∙◌, false, ◌&&◌, List, [], ◌∷◌, map, ℕ, ◌≤◌, leb, ltb, length, take, get_or}
-use Rattle.basics.specs.Basics.{if◌then◌else◌, all, every, paired, how_many, distinct}
+use Rattle.basics.specs.Basics.{if'◌then◌else◌, all, every, paired, how_many, distinct}
 use Rattle.block_forms.specs.Tuple.{Owner, committed, tentative}
 use Rattle.image_rows.specs.Rows.{Row, number, is_by, is_own, follows, starts_well, is_below, earlier_by, statement_is, statement_ok, transactions, open_limit}
 use Rattle.image_rows.specs.Columns.{coded_owner, coded, row_at, rows_in, columns_ok}
@@ -60,7 +60,7 @@ module _ (ps ns os ms : List ℕ) (n : ℕ) where
   thin_rows = map_tab thin (row_at ps ns os ms) 0 n
 
   number_rows : rows_in [] ns [] [] n ≡ map only_number (rows_in ps ns os ms n)
-  unfolding rows_in row_at coded coded_owner if◌then◌else◌
+  unfolding rows_in row_at coded coded_owner if'◌then◌else◌
   number_rows = map_tab only_number (row_at ps ns os ms) 0 n
 
   owner_rows : rows_in [] [] os [] n ≡ map only_owner (rows_in ps ns os ms n)

@@ -1,7 +1,7 @@
 -- The tests of statements that the code makes are the definition's, and count the transactions.
 use Rattle.basics.proofs.Kit.{◌≡◌, refl, sym, ap, ◌∙◌, true, ◌&&◌, List, [], ℕ, suc, ◌≤◌, ◌<◌, zero, ◌-◌, eqb, ltb, length, take, get_or, length-take, get_or-take, lt-ltb, eqb-true, eq-eqb}
 use Rattle.basics.proofs.Kit.{ne_eqb, eqb-false, ltb-true, arith}
-use Rattle.basics.specs.Basics.{if◌then◌else◌, all, how_many, distinct, one_if}
+use Rattle.basics.specs.Basics.{if'◌then◌else◌, all, how_many, distinct, one_if}
 use Rattle.basics.proofs.Facts.{by, lie, and_true}
 use Rattle.image_rows.specs.Rows.{Row, number, is_by, is_own, earlier_by, statement_is, statement_ok}
 use Rattle.image_rows.specs.Columns.{coded_owner, coded, row_at, rows_in}
@@ -73,7 +73,7 @@ module _ (os ns : List ℕ) (n : ℕ) where
   rows = rows_in [] ns os [] n
 
   pub own_row : (t k : ℕ) → is_own t (row_at [] ns os [] k) ≡ own t (get_or os k 0)
-  unfolding is_own is_by row_at coded coded_owner own if◌then◌else◌
+  unfolding is_own is_by row_at coded coded_owner own if'◌then◌else◌
   own_row t k = by (eqb (get_or os k 0) 0) (λ u. rw u) (λ u. rw u)
 
   row_rank : (t m : ℕ) → how_many (earlier_by t m) rows ≡ rank os ns n t m
@@ -84,11 +84,11 @@ module _ (os ns : List ℕ) (n : ℕ) where
       earlier k = ap (λ b. one_if (b && ltb (get_or ns k 0) m)) (own_row t k)
 
   row_none : (k : ℕ) → get_or os k 0 ≡ 0 → statement_ok rows (row_at [] ns os [] k) ≡ true
-  unfolding statement_ok statement_is number row_at coded coded_owner if◌then◌else◌
+  unfolding statement_ok statement_is number row_at coded coded_owner if'◌then◌else◌
   row_none k e = rw (eq-eqb _ _ e)
 
   row_some : (k : ℕ) → (get_or os k 0 ≡ 0 → ⊥) → statement_ok rows (row_at [] ns os [] k) ≡ eqb (st_of (get_or os k 0)) (rank os ns n (tx_of (get_or os k 0)) (get_or ns k 0))
-  unfolding statement_ok statement_is number row_at coded coded_owner if◌then◌else◌
+  unfolding statement_ok statement_is number row_at coded coded_owner if'◌then◌else◌
   row_some k z = rw (ne_eqb _ _ z, row_rank)
 
   statements_ranked : all (statement_ok rows) rows ≡ true → Ranked os ns n

@@ -1,6 +1,6 @@
 -- The transactions of a list of rows: those that have a row.
 use Rattle.basics.proofs.Kit.{◌≡◌, refl, sym, ap, ◌∙◌, Bool, ◌||◌, List, [], ◌∷◌, ℕ}
-use Rattle.basics.specs.Basics.{if◌then◌else◌, any, is_in}
+use Rattle.basics.specs.Basics.{if'◌then◌else◌, any, is_in}
 use Rattle.basics.proofs.Facts.{by}
 use Rattle.block_forms.specs.Tuple.{Owner, committed, tentative}
 use Rattle.image_rows.specs.Rows.{Row, is_by, is_own, add_owner, transactions}
@@ -8,7 +8,7 @@ use Rattle.basics.proofs.Searches.{any_cons}
 use Rattle.basics.proofs.Members.{in_cons, or_in}
 
 in_added : (t : ℕ) (o : Owner) (ts : List ℕ) → is_in t (add_owner o ts) ≡ (is_by t o || is_in t ts)
-unfolding add_owner is_by if◌then◌else◌
+unfolding add_owner is_by if'◌then◌else◌
 in_added t committed ts = refl
 in_added t (tentative u s) ts = by (is_in u ts) (λ h. rw h (or_in t u ts h)) (λ h. rw h (in_cons t u ts))
 

@@ -1,7 +1,7 @@
 -- Places in order: what `follows` is where the place rises, stays or falls; the first row. A place is table and key in one number.
 use Rattle.basics.proofs.Kit.{◌≡◌, refl, sym, ◌∙◌, Bool, true, false, ◌&&◌, not, ◌||◌, List, ℕ, suc, ◌+◌, ◌%◌, ◌≤◌, ◌<◌, ◌/◌, ◌-◌, leb, eqb, ltb, get_or, le-leb, lt-ltb, le-ltb, lt-leb}
 use Rattle.basics.proofs.Kit.{eqb-true, eq-eqb, ne_eqb, eqb-false, not-true, not-false, arith}
-use Rattle.basics.specs.Basics.{if◌then◌else◌, paired}
+use Rattle.basics.specs.Basics.{if'◌then◌else◌, paired}
 use Rattle.basics.proofs.Facts.{by}
 use Rattle.block_forms.specs.Tuple.{committed}
 use Rattle.image_rows.specs.Rows.{is_at, is_lower, owner_after, follows, starts_well}
@@ -49,7 +49,7 @@ unmarked m =
 
 -- after a committed version of its key, none that is committed
 pub after_committed : (o : ℕ) → owner_after committed (coded_owner o) ≡ ltb 0 o
-unfolding owner_after coded_owner if◌then◌else◌
+unfolding owner_after coded_owner if'◌then◌else◌
 after_committed o =
     by (eqb o 0)
     (λ e. let t = eqb-true o 0 e in rw (e, le-ltb 0 o (omega arith)))
@@ -57,15 +57,15 @@ after_committed o =
 
 module _ (p n o p' n' o' m : ℕ) where
   pub follows_rising : p < p' → follows (coded p n o 0) (coded p' n' o' m) ≡ eqb m 0
-  unfolding follows is_at is_lower coded if◌then◌else◌
+  unfolding follows is_at is_lower coded if'◌then◌else◌
   follows_rising h = rw (unmarked m, not_same p p' (λ e. omega arith), rises_lower p p' h)
 
   pub follows_falling : p' < p → follows (coded p n o 0) (coded p' n' o' m) ≡ false
-  unfolding follows is_at is_lower coded if◌then◌else◌
+  unfolding follows is_at is_lower coded if'◌then◌else◌
   follows_falling h = rw (not_same p p' (λ e. omega arith), falls_not_lower p p' h)
 
   pub follows_there : p ≡ p' → follows (coded p n o 0) (coded p' n' o' m) ≡ (ltb n n' && owner_after (coded_owner o) (coded_owner o'))
-  unfolding follows is_at is_lower coded if◌then◌else◌
+  unfolding follows is_at is_lower coded if'◌then◌else◌
   follows_there h = rw (stays_same p p' h)
 
 -- ---- the first row

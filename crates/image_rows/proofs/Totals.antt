@@ -1,7 +1,7 @@
 -- Sums over the first n indices.
 use Rattle.basics.proofs.Kit.{◌≡◌, refl, ap, Bool, true, false, ◌&&◌, ℕ, suc, ◌+◌, ◌≤◌, ◌<◌, zero, eqb, ltb, lt-ltb, le-ltb, eqb-true, eq-eqb, ne_eqb, eqb-false, ltb-true}
 use Rattle.basics.proofs.Kit.{ltb-false, arith}
-use Rattle.basics.specs.Basics.{if◌then◌else◌, how_many, one_if}
+use Rattle.basics.specs.Basics.{if'◌then◌else◌, how_many, one_if}
 use Rattle.basics.proofs.Facts.{by}
 use Rattle.basics.specs.Lists.{tab}
 use Rattle.basics.proofs.Members.{compared}
@@ -89,7 +89,7 @@ module _ (w : ℕ → ℕ) where
 -- a count along a list by its index
 module _ {A : Type 0} (f : A → Bool) (g : ℕ → A) where
   counted : (i n : ℕ) → how_many f (tab g i n) + total (λ k. one_if (f (g k))) i ≡ total (λ k. one_if (f (g k))) (i + n)
-  unfolding how_many if◌then◌else◌
+  unfolding how_many if'◌then◌else◌
   counted i zero = let e : i + 0 ≡ i = omega arith in rw e (omega arith)
   counted i (suc n) =
       let e : i + suc n ≡ suc i + n = omega arith in

@@ -1,6 +1,6 @@
 -- A hash table over a column of keys, as the code builds it: each row names the row before it in its bucket. And what the tests of statements ask of it.
 use Rattle.std.specs.Prelude.{ℕ, zero, suc, ◌-◌, ◌%◌, ◌≤◌, ◌<◌, ◌≡◌, Bool, false, not, ◌&&◌, ◌||◌, List, length, get_or, eqb, ltb}
-use Rattle.basics.specs.Basics.{if◌then◌else◌, all, how_many}
+use Rattle.basics.specs.Basics.{if'◌then◌else◌, all, how_many}
 use Rattle.basics.specs.Lists.{tab}
 use Rattle.block_forms.specs.Limits.{statement_limit}
 
@@ -15,11 +15,11 @@ bucket_count = 1013
 -- 1 + the index of the last of the first n numbers that passes; 0 if none does
 unfoldable pub last_by : (ℕ → Bool) → List ℕ → ℕ → ℕ
 last_by f xs zero = 0
-last_by f xs (suc n) = if f (get_or xs n 0) then suc n else last_by f xs n
+last_by f xs (suc n) = if' f (get_or xs n 0) then suc n else last_by f xs n
 
 -- the bucket of a key; 0 is no key, and has one of its own
 unfoldable pub bucket_of : ℕ → ℕ
-bucket_of x = if eqb x 0 then bucket_count else x % bucket_count
+bucket_of x = if' eqb x 0 then bucket_count else x % bucket_count
 
 -- x is in bucket b
 unfoldable pub in_bucket : ℕ → ℕ → Bool

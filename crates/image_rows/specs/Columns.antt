@@ -1,6 +1,6 @@
 -- Rows as the code holds them for its tests: four columns of numbers. A row read from them has no payload.
 use Rattle.std.specs.Prelude.{ℕ, ◌-◌, ◌/◌, ◌%◌, ◌≤◌, Bool, List, [], ◌∷◌, map, length, get_or, eqb, leb}
-use Rattle.basics.specs.Basics.{if◌then◌else◌, all, every, paired, distinct}
+use Rattle.basics.specs.Basics.{if'◌then◌else◌, all, every, paired, distinct}
 use Rattle.basics.specs.Lists.{tab}
 use Rattle.block_forms.specs.Limits.{statement_limit}
 use Rattle.block_forms.specs.Tuple.{Owner, committed, tentative}
@@ -9,7 +9,7 @@ use Rattle.image_rows.specs.Rows.{Row, number, follows, starts_well, is_below, t
 
 -- an owner's code is 0 for committed, else 1 + transaction and statement
 unfoldable pub coded_owner : ℕ → Owner
-coded_owner o = if eqb o 0 then committed else tentative ((o - 1) / statement_limit) ((o - 1) % statement_limit)
+coded_owner o = if' eqb o 0 then committed else tentative ((o - 1) / statement_limit) ((o - 1) % statement_limit)
 
 -- the row with these codes: table and key, number, owner, mark (0 or 1)
 unfoldable pub coded : ℕ → ℕ → ℕ → ℕ → Row

@@ -1,6 +1,6 @@
 -- All tuples of an image in order, each with its table; and the tests of refusal 24 that look at them.
 use Rattle.std.specs.Prelude.{ℕ, Bool, true, false, not, ◌&&◌, ◌||◌, List, [], ◌∷◌, map, length, eqb, ltb, leb}
-use Rattle.basics.specs.Basics.{if◌then◌else◌, all, every, paired, how_many, is_empty, is_in, distinct}
+use Rattle.basics.specs.Basics.{if'◌then◌else◌, all, every, paired, how_many, is_empty, is_in, distinct}
 use Rattle.block_forms.specs.Tuple.{Owner, committed, tentative, Tuple, is_tentative}
 
 -- a tuple with its table
@@ -43,7 +43,7 @@ owner_after (tentative t r) (tentative u s) = eqb t u
 -- s may come right after r: a newer version of the same key; or a higher key, whose first version is no delete mark
 unfoldable pub follows : Row → Row → Bool
 follows r s =
-    if is_at s.0 s.1.key r
+    if' is_at s.0 s.1.key r
     then (ltb r.1.number s.1.number && owner_after r.1.owner s.1.owner)
     else (is_lower r s && not s.1.mark)
 
@@ -76,7 +76,7 @@ statement_ok rs r = statement_is rs (number r) r.1.owner
 -- the tuple's transaction too, if it is tentative
 unfoldable pub add_owner : Owner → List ℕ → List ℕ
 add_owner committed ts = ts
-add_owner (tentative t s) ts = if is_in t ts then ts else t ∷ ts
+add_owner (tentative t s) ts = if' is_in t ts then ts else t ∷ ts
 
 -- the transactions of the tentative tuples, each once
 unfoldable pub transactions : List Row → List ℕ

@@ -1,6 +1,6 @@
 -- What holds while power is off, and that a roll-forward then does what is promised.
 use Rattle.basics.proofs.Kit.{◌≡◌, ap, ◌∙◌, subst, true, false, some, List, ◌++◌, ℕ, suc, ◌+◌, ◌≤◌, min, ltb, length, arith, ◌⊎◌, inl, inr, ⊎_elim}
-use Rattle.basics.specs.Basics.{if◌then◌else◌}
+use Rattle.basics.specs.Basics.{if'◌then◌else◌}
 use Rattle.basics.proofs.Facts.{by}
 use Rattle.basics.proofs.Elements.{leb-false}
 use Rattle.block_forms.specs.Tuple.{AllBytes}
@@ -53,7 +53,7 @@ module _ (s₀ : Store) (img log : List ℕ) (rs : List LogRecord) (d : Dead s�
       record { recovers = e; capacity = cap; marked = mk; resumed = k; is = unfolded r e k }
     where
       unfolded : (r : Store) → recover (min m second) img ≡ holds r → (k : Resumes s₀ r rs) → roll_forward m second img log ≡ end_forward log rs (repeat_all k.records r)
-      unfolded r e k = unfold roll_forward forward_below forward_from forward_of if◌then◌else◌ in rw (e, dead_read d, k.found, k.accepts)
+      unfolded r e k = unfold roll_forward forward_below forward_from forward_of if'◌then◌else◌ in rw (e, dead_read d, k.found, k.accepts)
 
   -- the store in which what is open is aborted
   abbrev Repeated : (r : Store) → Rolled s₀ img log rs m second r → Store
@@ -70,10 +70,10 @@ module _ (s₀ : Store) (img log : List ℕ) (rs : List LogRecord) (d : Dead s�
       (λ h. inr (le_of (length log) (end_of rs + end_of (aborts_of (Repeated r k))) h, k.is ∙ fits h))
     where
       full : ltb (length log) (end_of rs + end_of (aborts_of (Repeated r k))) ≡ true → end_forward log rs (Repeated r k) ≡ refuses 29
-      full h = unfold end_forward if◌then◌else◌ in rw h
+      full h = unfold end_forward if'◌then◌else◌ in rw h
 
       fits : ltb (length log) (end_of rs + end_of (aborts_of (Repeated r k))) ≡ false → end_forward log rs (Repeated r k) ≡ holds (with_aborts log rs (Repeated r k))
-      fits h = unfold end_forward if◌then◌else◌ in rw h
+      fits h = unfold end_forward if'◌then◌else◌ in rw h
 
       le_of : (a b : ℕ) → ltb a b ≡ false → b ≤ a
       le_of a b h = omega (arith, leb-false (suc a) b h)

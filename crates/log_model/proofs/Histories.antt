@@ -1,7 +1,7 @@
 -- The promise over histories: what holds in a life and while power is off, kept by every event.
 use Rattle.basics.proofs.Kit.{◌≡◌, refl, sym, ap, ◌∙◌, subst, ap₂, Bool, true, false, ◌||◌, some, none, Option, List, [], ◌∷◌, ◌++◌, append_assoc, append-nil, map, ℕ, suc, ◌+◌, ◌-◌, ◌*◌}
 use Rattle.basics.proofs.Kit.{◌/◌, ◌≤◌, min, take, take-append_seam, ltb, length, length-append, arith, ◌⊎◌, inl, inr, ⊎_elim}
-use Rattle.basics.specs.Basics.{if◌then◌else◌, any, is_in, sorted, sum}
+use Rattle.basics.specs.Basics.{if'◌then◌else◌, any, is_in, sorted, sum}
 use Rattle.basics.specs.Lists.{over}
 use Rattle.basics.proofs.Facts.{by, lie, never, AllOf}
 use Rattle.basics.proofs.Elements.{all_append, all_parts, leb-false, some_eq}
@@ -120,7 +120,7 @@ module _ (s₀ : Store) (img log : List ℕ) (s : Store) (e : ℕ) (rs : List Lo
   logged : (r : LogRecord) (o : Outcome) → (accepted o.answer ≡ false → (o.store ≡ s) × (o.writes ≡ [])) → o.writes ≡ []
       → (accepted o.answer ≡ true → log_size r ≤ l.size → Live s₀ img (over log e (encode_record r)) o.store (e + log_size r) (rs ++ r ∷ []))
       → Lives s₀ img rs (logging r o s log e)
-  unfolding logging appending if◌then◌else◌
+  unfolding logging appending if'◌then◌else◌
   logged r o f n g =
       by (accepted o.answer)
       (λ h. by (ltb (length log) (e + log_size r))
@@ -247,10 +247,10 @@ module _ (s₀ : Store) (img lg : List ℕ) (s : Store) (e : ℕ) (rs : List Log
   one_at_most c = go (record_for c s)
     where
       short : (r : LogRecord) (o : Outcome) → AtMostOne (appending r o s lg e).records
-      short r o = unfold appending unlogged if◌then◌else◌ in by (ltb (length lg) (e + log_size r)) (λ h. inl (rw h)) (λ h. inr (r, rw h, room s₀ img lg s e rs l r h))
+      short r o = unfold appending unlogged if'◌then◌else◌ in by (ltb (length lg) (e + log_size r)) (λ h. inl (rw h)) (λ h. inr (r, rw h, room s₀ img lg s e rs l r h))
 
       kept : (r : LogRecord) (o : Outcome) → AtMostOne (logging r o s lg e).records
-      kept r o = unfold logging unlogged if◌then◌else◌ in by (accepted o.answer) (λ h. rw h (short r o)) (λ h. inl (rw h))
+      kept r o = unfold logging unlogged if'◌then◌else◌ in by (accepted o.answer) (λ h. rw h (short r o)) (λ h. inl (rw h))
 
       go : (x : Option LogRecord) → AtMostOne (logging_if x (call c s) s lg e).records
       go none = unfold logging_if unlogged in inl refl
@@ -266,7 +266,7 @@ module _ (s₀ : Store) (img lg : List ℕ) (s : Store) (e : ℕ) (rs : List Log
 
       go : (x : Option LogRecord) → (logging_if x (call c s) s lg e).outcome.writes ≡ []
       go none = unfold logging_if unlogged in q
-      go (some r) = unfold logging_if logging appending unlogged gives if◌then◌else◌ in
+      go (some r) = unfold logging_if logging appending unlogged gives if'◌then◌else◌ in
           by (accepted (call c s).answer) (λ a. by (ltb (length lg) (e + log_size r)) (λ k. rw (a, k)) (λ k. rw (a, k) q)) (λ a. rw a q)
 
   -- what a cut leaves: the records before, or those with the call's
@@ -350,7 +350,7 @@ module _ (s₀ : Store) (img lg : List ℕ) (s : Store) (e : ℕ) (rs : List Log
 
 -- calls of records store nothing
 quiet : (rs : List LogRecord) (past base : List Call) (s : Store) → log past base s (calls_of rs) ≡ []
-unfolding calls_of if◌then◌else◌
+unfolding calls_of if'◌then◌else◌
 quiet [] past base s = unfold log in refl
 quiet (r ∷ rs) past base s = go (call_of r) (quiet rs)
   where

@@ -1,6 +1,6 @@
 -- What holds in a life of the image beside the records: every header that may be found stands at its place in them.
 use Rattle.basics.proofs.Kit.{◌≡◌, refl, sym, ap, ◌∙◌, subst, true, false, List, [], ◌∷◌, ◌++◌, append-nil, map, ℕ, suc, ◌≤◌, ◌<◌, eqb, arith}
-use Rattle.basics.specs.Basics.{if◌then◌else◌, any}
+use Rattle.basics.specs.Basics.{if'◌then◌else◌, any}
 use Rattle.basics.proofs.Facts.{by, AllOf}
 use Rattle.basics.proofs.Elements.{all_append, all_map, all_mapped, eqb-true}
 use Rattle.block_forms.specs.Tuple.{AllBytes}
@@ -78,7 +78,7 @@ module _ (s₀ : Store) (img : List ℕ) (s : Store) (rs : List LogRecord) (r : 
 
   -- a call that is no begin has the base of those before it
   no_begin : (c : Call) → is_begin c ≡ false → base_with c [] [] r.store r.calls ≡ base_after [] [] r.store r.calls
-  unfolding base_with base_of if◌then◌else◌
+  unfolding base_with base_of if'◌then◌else◌
   no_begin c h = rw h
 
   -- a header's store stands at its place
@@ -199,8 +199,8 @@ module _ (s₀ : Store) (img : List ℕ) (s : Store) (rs : List LogRecord) (r : 
       was_idle = unfold begin_call in unless_accepted (λ o. is_running s.checkpoint ≡ false) _ s _ (λ p k. p.0) h
 
       begun_base : base_with begins [] [] r.store r.calls ≡ r.calls
-      begun_base = unfold base_with base_of if◌then◌else◌ is_begin call in
-          ap (λ b. if b then r.calls else base_after [] [] r.store r.calls) (ap (λ y. accepted (begin_call y).answer) r.after ∙ h)
+      begun_base = unfold base_with base_of if'◌then◌else◌ is_begin call in
+          ap (λ b. if' b then r.calls else base_after [] [] r.store r.calls) (ap (λ y. accepted (begin_call y).answer) r.after ∙ h)
 
       higher : (l : ℕ) → l ≤ s.level → any (is_mark l) (mark_for s ∷ []) ≡ false
       higher l k = unfold any is_mark mark_for in by (eqb (suc s.level) l) (λ e. absurd (omega (arith, eqb-true (suc s.level) l e))) (λ e. rw (e, any))

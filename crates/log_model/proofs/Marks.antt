@@ -1,6 +1,6 @@
 -- Where in the records a recovered store stands, and that repeating goes on from there.
 use Rattle.basics.proofs.Kit.{◌≡◌, refl, sym, ap, ◌∙◌, subst, true, false, some, none, List, [], ◌∷◌, ◌++◌, append_assoc, map, ℕ, zero, suc, ◌<◌, arith}
-use Rattle.basics.specs.Basics.{if◌then◌else◌, any, is_in}
+use Rattle.basics.specs.Basics.{if'◌then◌else◌, any, is_in}
 use Rattle.basics.proofs.Facts.{by, lie}
 use Rattle.basics.proofs.Elements.{all_parts, all_append, eqb_self}
 use Rattle.basics.proofs.Searches.{any_append}
@@ -24,12 +24,12 @@ use Rattle.log_model.proofs.Opening.{agree_of, mark_opens, opens_fit, may_open, 
 -- ---- the last mark of a level
 
 no_mark : (l : ℕ) (rs : List LogRecord) → any (is_mark l) rs ≡ false → from_mark l rs ≡ none
-unfolding from_mark any if◌then◌else◌
+unfolding from_mark any if'◌then◌else◌
 no_mark l [] h = refl
 no_mark l (r ∷ rs) h = by (is_mark l r) (λ k. lie (sym (rw (k, any) at h))) (λ k. rw (no_mark l rs (rw (k, any) at h), k))
 
 here_mark : (l : ℕ) (r : LogRecord) (rs : List LogRecord) → is_mark l r ≡ true → any (is_mark l) rs ≡ false → from_mark l (r ∷ rs) ≡ some (r ∷ rs)
-unfolding from_mark if◌then◌else◌
+unfolding from_mark if'◌then◌else◌
 here_mark l r rs k h = rw (no_mark l rs h, k)
 
 past_mark : (l : ℕ) (before qs ps : List LogRecord) → from_mark l qs ≡ some ps → from_mark l (before ++ qs) ≡ some ps

@@ -1,7 +1,7 @@
 -- Opening the transactions that a mark carries, and aborting what is left open: all of these calls are accepted.
 use Rattle.basics.proofs.Kit.{◌≡◌, refl, sym, ap, ◌∙◌, subst, ap₂, Bool, true, false, not, ◌&&◌, ◌||◌, List, [], ◌∷◌, ◌++◌, append_assoc, append-nil, map, ℕ, ◌+◌, ◌≤◌, ◌<◌, eqb, leb, ltb}
 use Rattle.basics.proofs.Kit.{length, length-append, arith}
-use Rattle.basics.specs.Basics.{if◌then◌else◌, any, all, keep, is_in, distinct, sorted, how_many}
+use Rattle.basics.specs.Basics.{if'◌then◌else◌, any, all, keep, is_in, distinct, sorted, how_many}
 use Rattle.basics.proofs.Facts.{by, lie, AllOf, and_true, same_truth, or_else}
 use Rattle.basics.proofs.Ands.{and_yes, and_no}
 use Rattle.basics.proofs.Elements.{in_here, in_past, eqb-true, eqb_self, eqb_sym, in_append, all_in, all_two, all_append, leb-true, le_true, lt_false, not-true, in_all}
@@ -36,7 +36,7 @@ pub record Opened (s z : Store) (txs : List ℕ) : Type 0 where
   pub numbers : open_numbers z.active ≡ open_numbers s.active ++ txs
 
 open_one : (tx : ℕ) (s : Store) → tx ≤ most_transaction → is_in tx (open_numbers s.active) ≡ false → length s.active < open_limit → open_call tx s ≡ gives done (with_open tx s)
-unfolding open_call unless if◌then◌else◌
+unfolding open_call unless if'◌then◌else◌
 open_one tx s l h f = rw (lt_false most_transaction tx l, h, not_le open_limit (length s.active) f)
   where
     not_le : (a b : ℕ) → b < a → leb a b ≡ false
@@ -86,7 +86,7 @@ is_unwritten : Active → Bool
 is_unwritten o = eqb o.written 0
 
 kept_in : (f : Active → Bool) (u : ℕ) (os : List Active) → is_in u (open_numbers (keep f os)) ≡ true → is_in u (open_numbers os) ≡ true
-unfolding open_numbers keep if◌then◌else◌
+unfolding open_numbers keep if'◌then◌else◌
 kept_in f u [] h = h
 kept_in f u (o ∷ os) h =
     by (eqb u o.transaction) (λ e. in_here u o.transaction (open_numbers os) e)
@@ -94,7 +94,7 @@ kept_in f u (o ∷ os) h =
     ∙ kept_in f u os (by (f o) (λ k. sym (in_past u o.transaction (open_numbers (keep f os)) e) ∙ (rw k at h)) (λ k. rw k at h)))
 
 kept_distinct : (f : Active → Bool) (os : List Active) → distinct (open_numbers os) ≡ true → distinct (open_numbers (keep f os)) ≡ true
-unfolding open_numbers keep if◌then◌else◌
+unfolding open_numbers keep if'◌then◌else◌
 kept_distinct f [] h = h
 kept_distinct f (o ∷ os) h =
     let d = distinct_first o.transaction (open_numbers os) h in
@@ -103,11 +103,11 @@ kept_distinct f (o ∷ os) h =
     by (f o) (λ k. rw k (distinct_more o.transaction (open_numbers (keep f os)) n (kept_distinct f os d.1))) (λ k. rw k (kept_distinct f os d.1))
 
 written_here : (u : ℕ) (o : Active) (os : List Active) → eqb o.transaction u ≡ true → written_by u (o ∷ os) ≡ o.written
-unfolding written_by is_for if◌then◌else◌
+unfolding written_by is_for if'◌then◌else◌
 written_here u o os h = rw h
 
 written_past : (u : ℕ) (o : Active) (os : List Active) → eqb o.transaction u ≡ false → written_by u (o ∷ os) ≡ written_by u os
-unfolding written_by is_for if◌then◌else◌
+unfolding written_by is_for if'◌then◌else◌
 written_past u o os h = rw h
 
 -- u is among these and has written nothing
@@ -249,7 +249,7 @@ aborts_fit [] a = tt
 aborts_fit (tx ∷ txs) a = (omega (arith, a.0), aborts_fit txs a.1)
 
 abort_one : (tx : ℕ) (s : Store) → tx ≤ most_transaction → is_in tx (open_numbers s.active) ≡ true → repeat (aborted_by tx) s ≡ closing tx (aborted_pages tx s.pages) s
-unfolding repeat call_of call_if transact abort_call not_open unless if◌then◌else◌
+unfolding repeat call_of call_if transact abort_call not_open unless if'◌then◌else◌
 abort_one tx s l h = rw (lt_false most_transaction tx l, h)
 
 -- those of txs are no longer open

@@ -1,7 +1,7 @@
 -- The block stores of one call more, their levels, and a cut among them.
 use Rattle.basics.proofs.Kit.{◌≡◌, refl, sym, ap, ◌∙◌, subst, ap₂, Bool, true, false, ◌&&◌, some, none, Option, List, [], ◌∷◌, ◌++◌, append_assoc, append-nil, map, ℕ, zero, suc, ◌+◌, ◌-◌}
 use Rattle.basics.proofs.Kit.{◌*◌, ◌≤◌, ◌<◌, min, eqb, ltb, length, take, drop, arith}
-use Rattle.basics.specs.Basics.{if◌then◌else◌, first, how_many}
+use Rattle.basics.specs.Basics.{if'◌then◌else◌, first, how_many}
 use Rattle.basics.proofs.Facts.{by, lie, never, AllOf}
 use Rattle.basics.proofs.Elements.{all_append, all_map, eqb_self, all_take, all_drop, pos_not_zero, leb-true}
 use Rattle.block_forms.specs.Tuple.{Byte, AllBytes}
@@ -36,7 +36,7 @@ after_one a c s = after_append a (c ∷ []) s
 
 -- the calls before the begin whose checkpoint the stores of a call belong to
 unfoldable pub base_of : Call → Bool → List Call → List Call → List Call
-base_of c ok past base = if is_begin c && ok then past else base
+base_of c ok past base = if' is_begin c && ok then past else base
 
 -- the same, after a list of calls
 unfoldable pub base_after : List Call → List Call → Store → List Call → List Call
@@ -160,7 +160,7 @@ abbrev pub Rises : Store → Store → List Write → Type 0
 Rises s z ws = (s.level ≤ z.level) × AllOf (λ w. eqb w.at 0 ≡ true → s.level < z.level) ws
 
 first_many : (ps : List Page) (p : Page) → first is_frozen ps ≡ some p → 1 ≤ how_many is_frozen ps
-unfolding first how_many if◌then◌else◌
+unfolding first how_many if'◌then◌else◌
 first_many [] p e = never e
 first_many (q ∷ ps) p e = by (is_frozen q) (λ h. rw h (omega arith)) (λ h. rw h (first_many ps p (rw (h, first) at e)))
 
@@ -175,7 +175,7 @@ more_left s n es ds c h = rw c (omega (arith, h))
 
 step_of_rises : (s : Store) → WellFormed s → (n : ℕ) (es ds : List ℕ) → s.checkpoint ≡ running n es ds → (o : Option Page) → first is_frozen s.pages ≡ o
     → Rises s (step_of o n es ds s).store (step_of o n es ds s).writes
-unfolding step_of store_page store_directory store_header made with_progress if◌then◌else◌
+unfolding step_of store_page store_directory store_header made with_progress if'◌then◌else◌
 step_of_rises s w n es ds c (some p) f =
     let many = first_many s.pages p f in
     let b = taken_block s w (more_left s n es ds c (omega (arith, many))) in
@@ -194,7 +194,7 @@ step_rises s w (running n es ds) e = step_of_rises s w n es ds e (first is_froze
 
 -- one step, lent an image of the right length
 step_call_lem : (s : Store) → step_call (block_size * s.blocks) s ≡ step_at s.checkpoint s
-unfolding step_call bad_image unless if◌then◌else◌
+unfolding step_call bad_image unless if'◌then◌else◌
 step_call_lem s = rw (eqb_self (block_size * s.blocks))
 
 step_well : (s : Store) → WellFormed s → WellFormed (step_at s.checkpoint s).store

@@ -4,7 +4,7 @@
 -- computation.
 use Rattle.std.specs.Prelude.{ℕ, ◌-◌, ◌/◌, ◌≡◌, Bool, true, false, ◌&&◌, List, [], ◌∷◌, ◌++◌, map, length, replicate, take, drop, eqb}
 use Rattle.std.proofs.Math.Option.{Option, none, some}
-use Rattle.basics.specs.Basics.{if◌then◌else◌, all, every, is_empty}
+use Rattle.basics.specs.Basics.{if'◌then◌else◌, all, every, is_empty}
 use Rattle.basics.specs.Lists.{over}
 use Rattle.block_forms.specs.Numbers.{same}
 use Rattle.block_forms.specs.Spell.{zeros}
@@ -89,7 +89,7 @@ halves old new = let h = length new / 2 in (take h new ++ drop h old) ∷ (take 
 -- a store is cut: a header's is whole or not there; of another block the first 200 bytes are new; of log bytes one half is new
 unfoldable pub torn : DiskStore → Disk → List Disk
 torn (block_store w) d =
-    if eqb w.at 0 then [] else (put_block d.0 w.at (take 200 (stored_bytes w) ++ drop 200 (block_at d.0 w.at)), d.1) ∷ []
+    if' eqb w.at 0 then [] else (put_block d.0 w.at (take 200 (stored_bytes w) ++ drop 200 (block_at d.0 w.at)), d.1) ∷ []
 torn (log_store e bs) d = map (λ xs. (d.0, over d.1 e xs)) (halves (take (length bs) (drop e d.1)) bs)
 
 -- all that may be left: power fails before a store, inside it, or after the last

@@ -1,7 +1,7 @@
 -- Logged calls: an accepted call appends its record to the log.
 use Rattle.std.specs.Prelude.{ℕ, suc, ◌+◌, List, [], ◌∷◌, length, ltb, eqb}
 use Rattle.std.proofs.Math.Option.{Option, none, some}
-use Rattle.basics.specs.Basics.{if◌then◌else◌, keep, sorted}
+use Rattle.basics.specs.Basics.{if'◌then◌else◌, keep, sorted}
 use Rattle.basics.specs.Lists.{over}
 use Rattle.model.specs.State.{Active, Store, Outcome, refused}
 use Rattle.model.specs.Transactions.{gives, open_numbers}
@@ -55,12 +55,12 @@ unlogged o log e = record { outcome = o; records = []; log = log; end = e }
 -- 29 the record does not fit the log, after all other tests of the call; e is where the log ends
 unfoldable pub appending : LogRecord → Outcome → Store → List ℕ → ℕ → LoggedOutcome
 appending r o s log e =
-    if ltb (length log) (e + log_size r) then unlogged (gives (refused 29) s) log e
+    if' ltb (length log) (e + log_size r) then unlogged (gives (refused 29) s) log e
     else record { outcome = o; records = r ∷ []; log = over log e (encode_record r); end = e + log_size r }
 
 -- a call with the outcome o on the store s, and its record: a refused call leaves the log as found
 unfoldable pub logging : LogRecord → Outcome → Store → List ℕ → ℕ → LoggedOutcome
-logging r o s log e = if accepted o.answer then appending r o s log e else unlogged o log e
+logging r o s log e = if' accepted o.answer then appending r o s log e else unlogged o log e
 
 -- the same of a call that may have no record
 unfoldable pub logging_if : Option LogRecord → Outcome → Store → List ℕ → ℕ → LoggedOutcome

@@ -1,7 +1,7 @@
 -- Roll-forward: the image is recovered, the calls logged since its checkpoint began are repeated, and what is left open is aborted.
 use Rattle.std.specs.Prelude.{ℕ, zero, suc, ◌+◌, ◌-◌, min, List, [], ◌∷◌, ◌++◌, map, length, take, ltb}
 use Rattle.std.proofs.Math.Option.{Option, none, some}
-use Rattle.basics.specs.Basics.{if◌then◌else◌, sorted}
+use Rattle.basics.specs.Basics.{if'◌then◌else◌, sorted}
 use Rattle.basics.specs.Lists.{over}
 use Rattle.block_forms.specs.Spell.{zeros}
 use Rattle.image.specs.Stages.{Stage, refuses, holds}
@@ -62,12 +62,12 @@ with_aborts log rs s =
 
 -- 29 the aborts do not fit behind the last whole record
 unfoldable pub end_forward : List ℕ → List LogRecord → Store → Stage Forward
-end_forward log rs s = if ltb (length log) (end_of rs + end_of (aborts_of s)) then refuses 29 else holds (with_aborts log rs s)
+end_forward log rs s = if' ltb (length log) (end_of rs + end_of (aborts_of s)) then refuses 29 else holds (with_aborts log rs s)
 
 -- 31 an open of the mark or a repeated call is refused; 30 no mark of the header's level
 unfoldable pub forward_of : List ℕ → List LogRecord → Option (List LogRecord) → Store → Stage Forward
 forward_of log rs none s = refuses 30
-forward_of log rs (some qs) s = if all_accepted qs s then end_forward log rs (repeat_all qs s) else refuses 31
+forward_of log rs (some qs) s = if' all_accepted qs s then end_forward log rs (repeat_all qs s) else refuses 31
 
 -- 31 a record is malformed
 unfoldable pub forward_from : List ℕ → Option (List LogRecord) → Store → Stage Forward

@@ -1,7 +1,7 @@
 -- The record at the front of any bytes, byte by byte: what a short record, a tuple or a delete asks of the bytes, and what is then read.
 use Rattle.basics.proofs.Kit.{◌≡◌, refl, sym, ap, ◌∙◌, List, [], ◌∷◌, ◌++◌, append_assoc, append-nil, ℕ, ◌+◌, ◌*◌, ◌%◌, ◌/◌, ◌≤◌, ◌<◌, length, take, drop, get_or, arith}
 use Rattle.basics.proofs.Kit.{length-append, take-append-drop, ⊎_elim, ◌⊎◌, inl, inr, suc}
-use Rattle.basics.specs.Basics.{if◌then◌else◌}
+use Rattle.basics.specs.Basics.{if'◌then◌else◌}
 use Rattle.basics.specs.Lists.{tab}
 use Rattle.basics.proofs.Numbers.{lt_or_ge}
 use Rattle.basics.proofs.Facts.{by-option}
@@ -216,10 +216,10 @@ other_none xs b h =
     read_none xs b (λ r d k. ⊎_elim (λ (z : get_or xs 0 0 / 16 ≡ 0). omega (arith, kind_pos r)) (λ (z : 7 < get_or xs 0 0 / 16). omega (arith, kind_most r)) h)
 
 pub front_end : (xs : List ℕ) → (length xs ≡ 0) ⊎ (get_or xs 0 0 ≡ 0) → entry_in xs ≡ End
-unfolding entry_in ended if◌then◌else◌
+unfolding entry_in ended if'◌then◌else◌
 front_end [] h = refl
 front_end (x ∷ xs) h = ⊎_elim (λ (z : suc (length xs) ≡ 0). absurd (omega arith)) (λ (z : x ≡ 0). rw z) h
 
 pub front_going : (xs : List ℕ) → 0 < get_or xs 0 0 → entry_in xs ≡ entry_of (decode_record xs)
-unfolding entry_in if◌then◌else◌
+unfolding entry_in if'◌then◌else◌
 front_going xs h = rw (not_ended xs h)

@@ -1,7 +1,7 @@
 -- One reading and one spelling of a record (`decode_encode`, `encode_decode`), and its bytes (`record_bytes_lem`).
 use Rattle.basics.proofs.Kit.{◌≡◌, refl, sym, ap, ◌∙◌, true, some, ◌&&◌, List, [], ◌∷◌, ◌++◌, append-nil, ℕ, ◌*◌, ◌%◌, ◌<◌, subst, length, take, drop, eqb, arith}
 use Rattle.basics.proofs.Kit.{take-append_seam, take-append-drop, leb-true, le-leb}
-use Rattle.basics.specs.Basics.{if◌then◌else◌}
+use Rattle.basics.specs.Basics.{if'◌then◌else◌}
 use Rattle.basics.proofs.Facts.{by, by-option, never, and_true}
 use Rattle.basics.proofs.Elements.{some_eq, all_take, all_drop}
 use Rattle.block_bits.specs.Bits.{bits_in, field}
@@ -71,7 +71,7 @@ mark_entries l txs rest f =
     entries_all txs (encode_record (mark_of l txs) ++ rest) 48 ∙ got ∙ values_entries txs
 
 fields_read_lem : (r : LogRecord) → RecordFits r → (rest : List ℕ) → fields_read (encode_record r ++ rest) ≡ some r
-unfolding fields_read kind transaction_in table_in key_in if◌then◌else◌ log_fields delete_fields
+unfolding fields_read kind transaction_in table_in key_in if'◌then◌else◌ log_fields delete_fields
 fields_read_lem (opened_by tx) f rest = let e = short_back (opened_by tx) 1 tx refl (omega arith) f rest in rw (e.0, e.1)
 fields_read_lem (committed_by tx) f rest = let e = short_back (committed_by tx) 5 tx refl (omega arith) f rest in rw (e.0, e.1)
 fields_read_lem (aborted_by tx) f rest = let e = short_back (aborted_by tx) 6 tx refl (omega arith) f rest in rw (e.0, e.1)
@@ -108,7 +108,7 @@ within (deleted_by tx t k) f = refl
 within (mark_of l txs) f = le-leb (length txs) open_limit f.count
 
 pub decode_encode : DecodeOfEncode
-unfolding decode_record record_spelled starts_with if◌then◌else◌
+unfolding decode_record record_spelled starts_with if'◌then◌else◌
 decode_encode r f rest =
     rw (fields_read_lem r f rest, within r f, take-append_seam (encode_record r) rest, same_refl (encode_record r))
 
@@ -127,7 +127,7 @@ abbrev Ranged : LogRecord → Type 0
 Ranged r = within_limits r ≡ true → RecordFits r
 
 ranged : (xs : List ℕ) → AllBytes xs → (r : LogRecord) → fields_read xs ≡ some r → Ranged r
-unfolding fields_read within_limits transaction_in if◌then◌else◌
+unfolding fields_read within_limits transaction_in if'◌then◌else◌
 ranged xs b r e =
     by (eqb (kind xs) 1) (λ h. subst Ranged (some_eq (rw h at e)) (λ w. field_lt xs 4 12))
     (λ h1. by (eqb (kind xs) 2) (λ h. subst Ranged (some_eq (rw (h1, h) at e)) (λ w. (place_fits xs, record { limit = leb-true _ _ w; bytes = payload_bytes xs b })))
@@ -141,7 +141,7 @@ ranged xs b r e =
     (λ h. never (rw (h1, h2, h3, h4, h5, h6, h) at e))))))))
 
 pub encode_decode : EncodeOfDecode
-unfolding decode_record record_spelled starts_with if◌then◌else◌
+unfolding decode_record record_spelled starts_with if'◌then◌else◌
 encode_decode xs b r e =
     by-option (fields_read xs)
     (λ h. never (rw h at e))

@@ -1,7 +1,7 @@
 -- A log, record by record: its front (`log_next`, `log_ended`, `log_none`; `log_split`, `log_empty` from what was read), and the laws of whole logs.
 use Rattle.basics.proofs.Kit.{◌≡◌, refl, sym, ap, ◌∙◌, true, false, some, none, Option, List, [], ◌∷◌, ◌++◌, append_assoc, ℕ, zero, suc, ◌+◌, ◌≤◌, ◌<◌, length, drop, get_or, arith}
 use Rattle.basics.proofs.Kit.{length-drop, length-append, drop_at}
-use Rattle.basics.specs.Basics.{if◌then◌else◌, sum}
+use Rattle.basics.specs.Basics.{if'◌then◌else◌, sum}
 use Rattle.basics.proofs.Facts.{by, by-option, never, clash}
 use Rattle.basics.proofs.Elements.{all_drop, pos_not_zero}
 use Rattle.block_forms.specs.Tuple.{Byte}
@@ -15,7 +15,7 @@ use Rattle.log_records.proofs.Laws.{decode_encode, encode_decode}
 -- ---- the front of a log, whatever the fuel
 
 read_ended : (n : ℕ) (xs : List ℕ) → ended xs ≡ true → read_records n xs ≡ some []
-unfolding read_records if◌then◌else◌
+unfolding read_records if'◌then◌else◌
 read_ended zero xs h = rw h
 read_ended (suc n) xs h = rw (h, read_records)
 

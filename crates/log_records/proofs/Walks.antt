@@ -2,7 +2,7 @@
 -- and the place of its last mark.
 use Rattle.basics.proofs.Kit.{◌≡◌, refl, sym, ap, ◌∙◌, subst, true, false, Bool, some, none, Option, List, [], ◌∷◌, ℕ, ◌+◌, ◌-◌, ◌≤◌, ◌<◌, length, drop, arith}
 use Rattle.basics.proofs.Kit.{length-drop, drop-drop, drop_of_length-le, ⊎_elim, zero-add, add-zero, add_assoc, eqb-true}
-use Rattle.basics.specs.Basics.{if◌then◌else◌, sum}
+use Rattle.basics.specs.Basics.{if'◌then◌else◌, sum}
 use Rattle.basics.proofs.Numbers.{lt_or_ge}
 use Rattle.basics.proofs.Facts.{by, by-option, never, lie}
 use Rattle.basics.proofs.Elements.{some_eq, all_drop}
@@ -68,7 +68,7 @@ no_end (mark_of l txs) = refl
 -- the end, bytes that are no record, or a record
 front_cases : {X : Type 0} (xs : List ℕ) {e : Entry} → e ≡ entry_in xs → (ended xs ≡ true → e ≡ End → X) → (ended xs ≡ false → decode_record xs ≡ none → e ≡ Malformed → X)
     → ((r : LogRecord) → ended xs ≡ false → decode_record xs ≡ some r → e ≡ entry_as r → X) → X
-unfolding entry_in entry_of if◌then◌else◌
+unfolding entry_in entry_of if'◌then◌else◌
 front_cases xs q ends bad going =
     by (ended xs) (λ h. ends h (q ∙ rw h))
     (λ h. by-option (decode_record xs) (λ d. bad h d (q ∙ rw (h, d))) (λ r d. going r h d (q ∙ rw (h, d))))
@@ -159,15 +159,15 @@ mark_from l at f p (some rs) = mark_or at rs f p (from_mark l rs)
 module _ (l : ℕ) (r : LogRecord) (rs : List LogRecord) where
   from_later : {qs : List LogRecord} → from_mark l rs ≡ some qs → from_mark l (r ∷ rs) ≡ some qs
   unfolding from_mark
-  from_later e = ap (λ o. elim o [ some qs ↦ some qs | none ↦ if is_mark l r then some (r ∷ rs) else none ]) e
+  from_later e = ap (λ o. elim o [ some qs ↦ some qs | none ↦ if' is_mark l r then some (r ∷ rs) else none ]) e
 
   from_here : from_mark l rs ≡ none → is_mark l r ≡ true → from_mark l (r ∷ rs) ≡ some (r ∷ rs)
-  unfolding from_mark if◌then◌else◌
-  from_here e t = ap (λ o. elim o [ some qs ↦ some qs | none ↦ if is_mark l r then some (r ∷ rs) else none ]) e ∙ rw t
+  unfolding from_mark if'◌then◌else◌
+  from_here e t = ap (λ o. elim o [ some qs ↦ some qs | none ↦ if' is_mark l r then some (r ∷ rs) else none ]) e ∙ rw t
 
   from_off : from_mark l rs ≡ none → is_mark l r ≡ false → from_mark l (r ∷ rs) ≡ none
-  unfolding from_mark if◌then◌else◌
-  from_off e t = ap (λ o. elim o [ some qs ↦ some qs | none ↦ if is_mark l r then some (r ∷ rs) else none ]) e ∙ rw t
+  unfolding from_mark if'◌then◌else◌
+  from_off e t = ap (λ o. elim o [ some qs ↦ some qs | none ↦ if' is_mark l r then some (r ∷ rs) else none ]) e ∙ rw t
 
 -- the records from the last mark on are some of all
 from_less : (l : ℕ) (rs : List LogRecord) {qs : List LogRecord} → from_mark l rs ≡ some qs → end_of qs ≤ end_of rs

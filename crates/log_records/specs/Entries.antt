@@ -1,7 +1,7 @@
 -- Records as values of the code, and what the code asks for.
 use Rattle.std.specs.Prelude.{ℕ, ◌+◌, ◌*◌, ◌/◌, ◌≤◌, ◌<◌, ◌-◌, ◌≡◌, Bool, true, false, ◌⊎◌, List, length, get_or, eqb}
 use Rattle.std.proofs.Math.Option.{Option, none, some}
-use Rattle.basics.specs.Basics.{if◌then◌else◌}
+use Rattle.basics.specs.Basics.{if'◌then◌else◌}
 use Rattle.block_forms.specs.Limits.{payload_limit, transaction_limit, most_number}
 use Rattle.image_rows.specs.Rows.{open_limit}
 use Rattle.log_records.specs.Records.{LogRecord, opened_by, committed_by, aborted_by, inserted_by, replaced_by, deleted_by, mark_of, RecordFits, decode_record, ended, end_of, from_mark}
@@ -42,7 +42,7 @@ entry_of (some r) = entry_as r
 
 -- what stands at the front of xs
 unfoldable pub entry_in : List ℕ → Entry
-entry_in xs = if ended xs then End else entry_of (decode_record xs)
+entry_in xs = if' ended xs then End else entry_of (decode_record xs)
 
 -- how many bytes a change's record takes
 unfoldable pub change_size : Change → ℕ

@@ -1,7 +1,7 @@
 -- The redo log: what a record says, its fields and its bytes, and what any bytes are as a log.
 use Rattle.std.specs.Prelude.{ℕ, zero, suc, ◌*◌, ◌/◌, ◌%◌, ◌<◌, ◌≤◌, Bool, true, false, ◌&&◌, List, [], ◌∷◌, ◌++◌, length, take, drop, leb, eqb}
 use Rattle.std.proofs.Math.Option.{Option, none, some}
-use Rattle.basics.specs.Basics.{if◌then◌else◌, sum, AllOf}
+use Rattle.basics.specs.Basics.{if'◌then◌else◌, sum, AllOf}
 use Rattle.block_bits.specs.Bits.{bits_in, field}
 use Rattle.block_bits.specs.Fields.{total}
 use Rattle.block_forms.specs.Limits.{payload_limit, transaction_limit}
@@ -111,13 +111,13 @@ payload_in xs = take (field (bits_in xs) 19 6) (drop 8 xs)
 -- what the fields at the front of xs give, by their kind; none for another kind
 unfoldable pub fields_read : List ℕ → Option LogRecord
 fields_read xs =
-    if eqb (kind xs) 1 then some (opened_by (transaction_in xs))
-    else if eqb (kind xs) 2 then some (inserted_by (transaction_in xs) (table_in xs) (key_in xs) (payload_in xs))
-    else if eqb (kind xs) 3 then some (replaced_by (transaction_in xs) (table_in xs) (key_in xs) (payload_in xs))
-    else if eqb (kind xs) 4 then some (deleted_by (transaction_in xs) (table_in xs) (key_in xs))
-    else if eqb (kind xs) 5 then some (committed_by (transaction_in xs))
-    else if eqb (kind xs) 6 then some (aborted_by (transaction_in xs))
-    else if eqb (kind xs) 7 then some (mark_of (field (bits_in xs) 16 32) (read_entries xs 48 (field (bits_in xs) 4 7)))
+    if' eqb (kind xs) 1 then some (opened_by (transaction_in xs))
+    else if' eqb (kind xs) 2 then some (inserted_by (transaction_in xs) (table_in xs) (key_in xs) (payload_in xs))
+    else if' eqb (kind xs) 3 then some (replaced_by (transaction_in xs) (table_in xs) (key_in xs) (payload_in xs))
+    else if' eqb (kind xs) 4 then some (deleted_by (transaction_in xs) (table_in xs) (key_in xs))
+    else if' eqb (kind xs) 5 then some (committed_by (transaction_in xs))
+    else if' eqb (kind xs) 6 then some (aborted_by (transaction_in xs))
+    else if' eqb (kind xs) 7 then some (mark_of (field (bits_in xs) 16 32) (read_entries xs 48 (field (bits_in xs) 4 7)))
     else none
 
 -- a payload and the count of open transactions are within their limits
@@ -137,7 +137,7 @@ starts_with bs xs = same bs (take (length bs) xs)
 -- the record, if the bytes xs start with its bytes
 unfoldable pub record_spelled : List ℕ → Option LogRecord → Option LogRecord
 record_spelled xs none = none
-record_spelled xs (some r) = if within_limits r && starts_with (encode_record r) xs then some r else none
+record_spelled xs (some r) = if' within_limits r && starts_with (encode_record r) xs then some r else none
 
 -- the record at the front of xs; none where it is malformed or runs past the end
 unfoldable pub decode_record : List ℕ → Option LogRecord
@@ -155,7 +155,7 @@ followed_by r (some rs) = some (r ∷ rs)
 
 -- the records from the front of xs on, n at most; none where one is malformed
 unfoldable pub read_records : ℕ → List ℕ → Option (List LogRecord)
-read_records zero xs = if ended xs then some [] else none
+read_records zero xs = if' ended xs then some [] else none
 read_records (suc n) xs =
     elim (ended xs) [
       | true ↦ some []
@@ -185,4 +185,4 @@ is_mark l (mark_of m txs) = eqb m l
 -- the records from the last mark of level l on, if there is one
 unfoldable pub from_mark : ℕ → List LogRecord → Option (List LogRecord)
 from_mark l [] = none
-from_mark l (r ∷ rs) = elim (from_mark l rs) [ some qs ↦ some qs | none ↦ if is_mark l r then some (r ∷ rs) else none ]
+from_mark l (r ∷ rs) = elim (from_mark l rs) [ some qs ↦ some qs | none ↦ if' is_mark l r then some (r ∷ rs) else none ]

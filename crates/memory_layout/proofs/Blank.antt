@@ -2,7 +2,7 @@
 use Rattle.image.specs.Stages.{capacity_limit}
 use Rattle.block_forms.specs.Limits.{block_limit}
 use Rattle.basics.proofs.Kit.{subst, ◌≡◌, refl, ap, ◌∙◌, true, not, some, List, ℕ, ◌+◌, ◌*◌, ◌≤◌, ◌<◌, eqb, length, get_or, length-replicate, replicate, le-ltb, arith}
-use Rattle.basics.specs.Basics.{if◌then◌else◌, all}
+use Rattle.basics.specs.Basics.{if'◌then◌else◌, all}
 use Rattle.model.specs.Recover.{fresh_store}
 use Rattle.memory_bytes.specs.Bytes.{le2, le4, bytes4, Apart, Wrote}
 use Rattle.basics.specs.Lists.{tab}
@@ -50,7 +50,7 @@ module _ {m' : List ℕ} {b n : ℕ} (k : Blanked m' b n) where
   ends t h = zero2 m' (64 + t * 2) (λ x p q. k.zeros x (omega arith) (omega arith))
 
   start : start_at m' (capacity_of m') 0 ≡ 0
-  unfolding start_at if◌then◌else◌
+  unfolding start_at if'◌then◌else◌
   start = rw (le-ltb 0 (page_count m') (omega (arith, ends 7 (omega arith)))) (word 32 (omega arith) (omega arith))
 
   pub blank_becomes : {m : List ℕ} → FreshFits (length m) b n → length m' ≡ length m → Becomes m m' (fresh_flat b n)
@@ -119,7 +119,7 @@ unfolding fresh_flat all
 fresh_counted b n = refl
 
 fresh_means : (b n : ℕ) → store_of (fresh_flat b n) ≡ fresh_store b n
-unfolding store_of fresh_flat fresh_store nest checkpoint_of if◌then◌else◌
+unfolding store_of fresh_flat fresh_store nest checkpoint_of if'◌then◌else◌
 fresh_means b n = refl
 
 -- the memory holds the fresh store

@@ -4,7 +4,7 @@ use Rattle.image_rows.specs.Rows.{open_limit}
 use Rattle.block_forms.specs.Limits.{block_limit, mark_value, payload_limit, statement_limit}
 use Rattle.basics.proofs.Kit.{◌≡◌, refl, sym, ap, ◌∙◌, fun_ext, Bool, true, false, ◌&&◌, not, List, ℕ, suc, ◌+◌, ◌*◌, ◌%◌, ◌^◌, ◌≤◌, ◌<◌, ◌/◌, ◌-◌, min-le_right, leb, eqb, ltb, get_or}
 use Rattle.basics.proofs.Kit.{⊎_elim, lt-ltb, le-ltb, ltb-true, arith}
-use Rattle.basics.specs.Basics.{if◌then◌else◌}
+use Rattle.basics.specs.Basics.{if'◌then◌else◌}
 use Rattle.basics.specs.Basics.{from}
 use Rattle.memory_bytes.specs.Bytes.{le2, le4, bytes}
 use Rattle.basics.specs.Lists.{tab}
@@ -28,11 +28,11 @@ Behind m m' a = (b : ℕ) → a ≤ b → get_or m' b 0 ≡ get_or m b 0
 
 -- a page's start is stored, and behind the last page it is the number of rows
 pub start_stored : (m : List ℕ) (c p : ℕ) → p < page_count m → start_at m c p ≡ le2 m (starts_at c + p * 2)
-unfolding start_at if◌then◌else◌
+unfolding start_at if'◌then◌else◌
 start_stored m c p h = rw (lt-ltb p (page_count m) h)
 
 pub start_behind : (m : List ℕ) (c p : ℕ) → page_count m ≤ p → start_at m c p ≡ row_count m
-unfolding start_at if◌then◌else◌
+unfolding start_at if'◌then◌else◌
 start_behind m c p h = rw (le-ltb p (page_count m) h)
 
 module _ (m m' : List ℕ) where
@@ -112,10 +112,10 @@ module _ (m m' : List ℕ) where
 
     -- a slot that is named is one of c
     pub slot_below : (r : ℕ) → 1 ≤ c → slot_of c r < c
-    unfolding slot_of if◌then◌else◌
+    unfolding slot_of if'◌then◌else◌
     slot_below r h = by_test (ltb (r % slot_limit) c) refl
       where
-        by_test : (t : Bool) → ltb (r % slot_limit) c ≡ t → (if t then r % slot_limit else 0) < c
+        by_test : (t : Bool) → ltb (r % slot_limit) c ≡ t → (if' t then r % slot_limit else 0) < c
         by_test true e = ltb-true (r % slot_limit) c e
         by_test false e = h
 

@@ -6,7 +6,7 @@ use Rattle.image.specs.Stages.{capacity_limit}
 use Rattle.basics.proofs.Kit.{◌≡◌, refl, sym, ap, ◌∙◌, true, false, some, none, List, ℕ, suc, ◌+◌, ◌*◌, ◌≤◌, ◌<◌, zero, ◌-◌, add-one, add-zero, zero-add, eqb, length, take, le-leb, leb-true}
 use Rattle.basics.proofs.Kit.{lt-ltb, eqb-true, eq-eqb, ltb-true, arith}
 use Rattle.block_forms.specs.Limits.{block_limit}
-use Rattle.basics.specs.Basics.{if◌then◌else◌, all, from, sum}
+use Rattle.basics.specs.Basics.{if'◌then◌else◌, all, from, sum}
 use Rattle.basics.proofs.Facts.{by, never, and_true}
 use Rattle.model.specs.State.{Store}
 use Rattle.memory_bytes.specs.Bytes.{le4}
@@ -248,11 +248,11 @@ module _ (f : Flat) where
   taken_is = refl
 
 pub in_none : (m : List ℕ) → holds_store m ≡ false → store_in m ≡ none
-unfolding store_in if◌then◌else◌
+unfolding store_in if'◌then◌else◌
 in_none m e = rw e
 
 pub in_some : (m : List ℕ) → holds_store m ≡ true → store_in m ≡ some (store_of (flat_of m))
-unfolding store_in if◌then◌else◌
+unfolding store_in if'◌then◌else◌
 in_some m e = rw e
 
 -- what a memory that holds a store is known to have
@@ -263,7 +263,7 @@ pub record Sound (m : List ℕ) (s : Store) : Type 0 where
   pub means : store_of (flat_of m) ≡ s
 
 pub in_sound : (m : List ℕ) (s : Store) → store_in m ≡ some s → Sound m s
-unfolding store_in if◌then◌else◌
+unfolding store_in if'◌then◌else◌
 in_sound m s e =
     by (holds_store m)
     (λ h. let k : some (store_of (flat_of m)) ≡ some s = rw h at e in record { has_store = h; room = holds_room m h; counted = holds_counted m h; means = cc })

@@ -1,7 +1,7 @@
 -- The tests that decide whether the memory holds a store, and what they mean.
 use Rattle.basics.proofs.Kit.{◌≡◌, sym, ap, ◌∙◌, Bool, true, false, ◌&&◌, List, [], ◌∷◌, ℕ, suc, ◌+◌, ◌*◌, ◌≤◌, ◌<◌, ◌-◌, add-one, add-zero, zero-add, leb, eqb, ltb}
 use Rattle.basics.proofs.Kit.{length, le-leb, leb-true, lt-ltb, le-ltb, lt-leb, eq-eqb, ne_eqb, ltb-true, arith}
-use Rattle.basics.specs.Basics.{if◌then◌else◌, every, all, paired, from}
+use Rattle.basics.specs.Basics.{if'◌then◌else◌, every, all, paired, from}
 use Rattle.basics.proofs.Ands.{and_yes, and_no, and_assoc}
 use Rattle.memory_bytes.specs.Bytes.{le2, le4, column2}
 use Rattle.basics.specs.Lists.{tab}
@@ -73,13 +73,13 @@ tables_iteration m t a b rise h ea eb inv =
 module _ {m : List ℕ} {c pages rows : ℕ} (at : StartsAt m c pages rows) where
   -- a page's start, by its two bytes
   start_in : (p : ℕ) → p < pages → start_at m (capacity_of m) p ≡ column2 m (starts_at c) p
-  unfolding start_at if◌then◌else◌
+  unfolding start_at if'◌then◌else◌
   start_in p h =
       let t : ltb p (page_count m) ≡ true = lt-ltb p (page_count m) (omega (arith, at.pages)) in
       rw t (ap (λ (z : ℕ). le2 m (starts_at z + p * 2)) (sym at.capacity))
 
   start_behind : start_at m (capacity_of m) pages ≡ rows
-  unfolding start_at if◌then◌else◌
+  unfolding start_at if'◌then◌else◌
   start_behind = let t : ltb pages (page_count m) ≡ false = le-ltb pages (page_count m) (omega (arith, at.pages)) in rw t (sym at.rows)
 
   pub no_pages : pages ≡ 0 → starts_rise m ≡ eqb rows 0

@@ -1,7 +1,7 @@
 -- The store that the memory holds, if it holds one.
 use Rattle.std.specs.Prelude.{ℕ, suc, ◌*◌, ◌≤◌, ◌≡◌, Bool, false, not, ◌&&◌, ◌||◌, List, [], ◌∷◌, length, take, drop, leb, ltb, eqb}
 use Rattle.std.proofs.Math.Option.{Option, none, some}
-use Rattle.basics.specs.Basics.{if◌then◌else◌, every, all, sum, from}
+use Rattle.basics.specs.Basics.{if'◌then◌else◌, every, all, sum, from}
 use Rattle.block_forms.specs.Limits.{most_number, block_limit}
 use Rattle.image_rows.specs.Rows.{open_limit}
 use Rattle.image.specs.Stages.{capacity_limit}
@@ -32,7 +32,7 @@ pages_in f = nest f.entries f.rows
 
 -- the running checkpoint, if one runs: none does at the last level, whatever the memory says, since a begin is refused there
 unfoldable pub checkpoint_of : Bool → ℕ → ℕ → List ℕ → List ℕ → Checkpoint
-checkpoint_of on l n es ds = if not on || leb most_number l then idle else running n es ds
+checkpoint_of on l n es ds = if' not on || leb most_number l then idle else running n es ds
 
 -- the store that the flat lists mean
 unfoldable pub store_of : Flat → Store
@@ -111,7 +111,7 @@ holds_store m =
 
 -- the store that the memory holds; if it holds none, refusal 4
 unfoldable pub store_in : List ℕ → Option Store
-store_in m = if holds_store m then some (store_of (flat_of m)) else none
+store_in m = if' holds_store m then some (store_of (flat_of m)) else none
 
 -- a page has a row
 unfoldable pub has_rows : Entry → Bool

@@ -1,7 +1,7 @@
 -- What the bytes of the memory mean: the head's numbers, rows and page entries as typed values. Every byte pattern has a meaning.
 use Rattle.std.specs.Prelude.{ℕ, suc, ◌+◌, ◌*◌, ◌-◌, ◌/◌, ◌%◌, ◌^◌, min, Bool, not, ◌&&◌, List, get_or, eqb, ltb, leb}
 use Rattle.memory_bytes.specs.Columns.{slot_limit}
-use Rattle.basics.specs.Basics.{if◌then◌else◌, how_many, from}
+use Rattle.basics.specs.Basics.{if'◌then◌else◌, how_many, from}
 use Rattle.memory_bytes.specs.Bytes.{le2, le4, bytes}
 use Rattle.block_forms.specs.Limits.{payload_limit, block_limit, mark_value, statement_limit}
 use Rattle.block_forms.specs.Decode.{read_owner, read_mark}
@@ -70,11 +70,11 @@ is_used m b = ltb b block_limit && eqb (get_or m (used_at + b / 8) 0 / 2 ^ (b % 
 
 -- the slot that a number of two bytes names: slot 0 for one that is not there
 unfoldable pub slot_of : ℕ → ℕ → ℕ
-slot_of c r = if ltb (r % slot_limit) c then r % slot_limit else 0
+slot_of c r = if' ltb (r % slot_limit) c then r % slot_limit else 0
 
 -- a pending operation by its number
 unfoldable pub pending_by : ℕ → Pending
-pending_by k = if eqb k 0 then nothing else if eqb k 1 then adding else if eqb k 2 then committing else removing
+pending_by k = if' eqb k 0 then nothing else if' eqb k 1 then adding else if' eqb k 2 then committing else removing
 
 -- the pending operation in a number of two bytes
 unfoldable pub pending_of : ℕ → Pending
@@ -116,7 +116,7 @@ row_at m c i = held_of m (slot_place (slot_of c (ref_of m c i))) (key_of m c i) 
 
 -- the row with which page p starts; behind the last page, how many rows there are
 unfoldable pub start_at : List ℕ → ℕ → ℕ → ℕ
-start_at m c p = if ltb p (page_count m) then le2 m (starts_at c + p * 2) else row_count m
+start_at m c p = if' ltb p (page_count m) then le2 m (starts_at c + p * 2) else row_count m
 
 -- the table of page p: how many tables end at or before it
 unfoldable pub table_at : List ℕ → ℕ → ℕ

@@ -1,6 +1,6 @@
 -- A page's table by the ends of the tables.
 use Rattle.basics.proofs.Kit.{◌≡◌, refl, sym, ap, ◌∙◌, ⊎_elim, true, false, List, ℕ, suc, ◌+◌, ◌≤◌, ◌<◌, zero, ◌-◌, leb, length, le-leb, lt-leb, arith}
-use Rattle.basics.specs.Basics.{if◌then◌else◌, how_many, from}
+use Rattle.basics.specs.Basics.{if'◌then◌else◌, how_many, from}
 use Rattle.memory_bytes.specs.Columns.{up_to}
 use Rattle.basics.specs.Lists.{tab}
 use Rattle.basics.proofs.Tabs.{lt_or_ge}
@@ -15,7 +15,7 @@ use Rattle.memory_pages.proofs.Ranges.{rising, entry_table}
 -- the first k are, the others are not
 pub count_cut : (E : ℕ → ℕ) (p a n k : ℕ) → k ≤ n → ((t : ℕ) → a ≤ t → t < a + k → E t ≤ p) → ((t : ℕ) → a + k ≤ t → t < a + n → p < E t)
     → how_many (up_to p) (tab E a n) ≡ k
-unfolding how_many if◌then◌else◌
+unfolding how_many if'◌then◌else◌
 count_cut E p a zero zero b h l = refl
 count_cut E p a zero (suc k) b h l = absurd (omega arith)
 count_cut E p a (suc n) zero b h l =

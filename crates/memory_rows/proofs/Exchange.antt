@@ -1,7 +1,7 @@
 -- One row exchanged by a change of its columns: another state, another pending operation.
 use Rattle.memory_bytes.specs.Columns.{slot_limit}
 use Rattle.basics.proofs.Kit.{◌≡◌, refl, sym, ap, ◌∙◌, ⊎_elim, Bool, List, [], ◌∷◌, ℕ, ◌+◌, ◌*◌, ◌%◌, ◌≤◌, ◌<◌, ◌/◌, min, leb, ltb, length, get_or, le-ltb, arith}
-use Rattle.basics.specs.Basics.{if◌then◌else◌}
+use Rattle.basics.specs.Basics.{if'◌then◌else◌}
 use Rattle.block_forms.specs.Limits.{payload_limit, committed_value, statement_limit, mark_value}
 use Rattle.block_forms.specs.Tuple.{committed, tentative}
 use Rattle.model.specs.State.{Held}
@@ -63,8 +63,8 @@ module _ {m m' : List ℕ} (room : Room m) (i : ℕ) (h : i < length (rows_of m)
 -- ---- committed
 
 owner_committed : (s w : ℕ) → committed_value ≤ s → read_owner s w ≡ committed
-unfolding read_owner if◌then◌else◌
-owner_committed s w h = ap (λ (t : Bool). if t then tentative (w / statement_limit) (w % statement_limit) else committed) (le-ltb s committed_value h)
+unfolding read_owner if'◌then◌else◌
+owner_committed s w h = ap (λ (t : Bool). if' t then tentative (w / statement_limit) (w % statement_limit) else committed) (le-ltb s committed_value h)
 
 pub length_by : (s t : ℕ) → s % mark_value ≡ t % 64 → length_of s ≡ length_of t
 unfolding length_of
@@ -113,7 +113,7 @@ module _ {m m' : List ℕ} (room : Room m) (i : ℕ) (h : i < length (rows_of m)
 -- ---- pending
 
 pub code_is : (p : Pending) (s : ℕ) → s < slot_limit → pending_of (s + code_of p * slot_limit) ≡ pending_is p
-unfolding pending_of pending_by if◌then◌else◌
+unfolding pending_of pending_by if'◌then◌else◌
 code_is Nothing s h = let e : (s + 0 * slot_limit) / slot_limit % 4 ≡ 0 = omega arith in ap pending_by e
 code_is Adding s h = let e : (s + 1 * slot_limit) / slot_limit % 4 ≡ 1 = omega arith in ap pending_by e
 code_is Committing s h = let e : (s + 2 * slot_limit) / slot_limit % 4 ≡ 2 = omega arith in ap pending_by e
@@ -121,7 +121,7 @@ code_is Removing s h = let e : (s + 3 * slot_limit) / slot_limit % 4 ≡ 3 = ome
 
 pub slot_by : (c r t : ℕ) → r % slot_limit ≡ t % slot_limit → slot_of c r ≡ slot_of c t
 unfolding slot_of
-slot_by c r t e = ap (λ (z : ℕ). if ltb z c then z else 0) e
+slot_by c r t e = ap (λ (z : ℕ). if' ltb z c then z else 0) e
 
 pending_is_lem : (m : List ℕ) (a k s r v : ℕ) (p : Pending) → v ≡ r % slot_limit + code_of p * slot_limit
     → held_of m a k s v ≡ with_pending (pending_is p) (held_of m a k s r)

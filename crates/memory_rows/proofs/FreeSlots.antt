@@ -1,7 +1,7 @@
 -- Which slots are taken, and that one is free as long as there are fewer rows than slots.
 use Rattle.basics.proofs.Kit.{◌≡◌, refl, sym, ◌∙◌, Bool, true, false, List, ℕ, ◌+◌, ◌%◌, ◌≤◌, ◌<◌, eqb, ltb, length, ne_eqb, ltb-false}
 use Rattle.basics.proofs.Kit.{arith}
-use Rattle.basics.specs.Basics.{if◌then◌else◌, any, is_in}
+use Rattle.basics.specs.Basics.{if'◌then◌else◌, any, is_in}
 use Rattle.memory_bytes.specs.Bytes.{column2}
 use Rattle.memory_bytes.specs.Columns.{equals, names, slot_limit}
 use Rattle.basics.specs.Lists.{tab}
@@ -16,10 +16,10 @@ use Rattle.memory_rows.specs.Cells.{slot_in, slot_at, is_taken}
 
 -- a slot that is not 0 is named by its own number only
 same_slot : (c r s : ℕ) → 0 < s → s < c → eqb (r % slot_limit) s ≡ eqb (slot_of c r) s
-unfolding slot_of if◌then◌else◌
+unfolding slot_of if'◌then◌else◌
 same_slot c r s h k = by_test (ltb (r % slot_limit) c) refl
   where
-    by_test : (t : Bool) → ltb (r % slot_limit) c ≡ t → eqb (r % slot_limit) s ≡ eqb (if t then r % slot_limit else 0) s
+    by_test : (t : Bool) → ltb (r % slot_limit) c ≡ t → eqb (r % slot_limit) s ≡ eqb (if' t then r % slot_limit else 0) s
     by_test true e = refl
     by_test false e = let p : c ≤ r % slot_limit = ltb-false (r % slot_limit) c e in ne_eqb (r % slot_limit) s (λ z. omega arith) ∙ sym (ne_eqb 0 s (λ z. omega arith))
 

@@ -2,7 +2,7 @@
 use Rattle.memory_layout.specs.Places.{states_at}
 use Rattle.block_forms.specs.Limits.{committed_value}
 use Rattle.basics.proofs.Kit.{◌≡◌, ap, ◌∙◌, Bool, List, ℕ, ◌+◌, ◌≤◌, ◌-◌, ltb, length, take, drop, get_or, arith}
-use Rattle.basics.specs.Basics.{if◌then◌else◌, any}
+use Rattle.basics.specs.Basics.{if'◌then◌else◌, any}
 use Rattle.basics.proofs.Facts.{by}
 use Rattle.block_forms.specs.Tuple.{is_tentative}
 use Rattle.basics.specs.Lists.{tab}
@@ -19,7 +19,7 @@ abbrev pub unset : ℕ → Bool
 unset s = ltb s committed_value
 
 owned_is : (m : List ℕ) (c i : ℕ) → is_owned (row_at m c i) ≡ unset (state_of m c i)
-unfolding is_owned row_at held_of read_owner is_tentative if◌then◌else◌
+unfolding is_owned row_at held_of read_owner is_tentative if'◌then◌else◌
 owned_is m c i = by (ltb (state_of m c i) committed_value) (λ h. rw h) (λ h. rw h)
 
 pub group_is : (m : List ℕ) (i a : ℕ) → i + 16 ≤ length (flat_of m).rows → a ≡ states_at (capacity_of m) + i

@@ -1,7 +1,7 @@
 -- A row is put in or taken out: the rows are then the old list with one element more or less.
 use Rattle.basics.proofs.Kit.{◌≡◌, sym, ap, ◌∙◌, ⊎_elim, Bool, true, false, List, ℕ, suc, ◌+◌, ◌*◌, ◌%◌, ◌≤◌, ◌<◌, ◌-◌, min, min-eq_left, eqb, ltb, length, get_or, lt-ltb, eq-eqb}
 use Rattle.basics.proofs.Kit.{arith}
-use Rattle.basics.specs.Basics.{if◌then◌else◌}
+use Rattle.basics.specs.Basics.{if'◌then◌else◌}
 use Rattle.block_forms.specs.Limits.{payload_limit}
 use Rattle.block_forms.specs.Tuple.{Owner}
 use Rattle.memory_bytes.specs.Bytes.{le4, bytes, bytes2, bytes4, Wrote}
@@ -28,8 +28,8 @@ use Rattle.memory_rows.proofs.Moving.{cells_then, cells_stay}
 -- ---- what was stored is read
 
 pub slot_own : (c r s : ℕ) → r % slot_limit ≡ s → s < c → slot_of c r ≡ s
-unfolding slot_of if◌then◌else◌
-slot_own c r s e h = ap (λ (z : ℕ). if ltb z c then z else 0) e ∙ ap (λ (t : Bool). if t then s else 0) (lt-ltb s c h)
+unfolding slot_of if'◌then◌else◌
+slot_own c r s e h = ap (λ (z : ℕ). if' ltb z c then z else 0) e ∙ ap (λ (t : Bool). if' t then s else 0) (lt-ltb s c h)
 
 length_read : (o : Owner) (mark : Bool) (n : ℕ) → n ≤ payload_limit → length_of (flags_of o mark n) ≡ n
 unfolding length_of

@@ -1,7 +1,7 @@
 -- Checkpoints do not show in what transactions are answered.
 use Rattle.basics.proofs.Kit.{◌≡◌, refl, sym, ap, ◌∙◌, subst, ap₂, Bool, true, false, not, ◌||◌, ◌&&◌, List, [], ◌∷◌, ◌++◌, ℕ, suc, ◌<◌, eqb, leb, ltb, length, arith, ◌⊎◌, inl, inr, ⊎_elim}
 use Rattle.basics.proofs.Kit.{min}
-use Rattle.basics.specs.Basics.{if◌then◌else◌, any, keep, is_some, is_in, sorted, paired}
+use Rattle.basics.specs.Basics.{if'◌then◌else◌, any, keep, is_some, is_in, sorted, paired}
 use Rattle.basics.proofs.Facts.{by, lie}
 use Rattle.basics.proofs.Elements.{all_map, eqb-true, eqb_self, eqb_sym, in_append, in_keep, not_in, leb-true, leb-false, not-false}
 use Rattle.basics.proofs.Ands.{and_no}
@@ -83,7 +83,7 @@ Both o q = (o.answer ≡ q.answer) × Agree o.store q.store
 
 -- the same tests
 unless_both : (ts : List Test) (s z : Store) (o q : Outcome) → Agree s z → (Passed ts → Both o q) → Both (unless ts s o) (unless ts z q)
-unfolding unless if◌then◌else◌ gives
+unfolding unless if'◌then◌else◌ gives
 unless_both [] s z o q a f = f tt
 unless_both ((n when b) ∷ ts) s z o q a f = by b (λ h. rw h (refl, a)) (λ h. rw h (unless_both ts s z o q a (λ p. f (h, p))))
 
@@ -95,7 +95,7 @@ Spared X q = X ⊎ (q.answer ≡ refused 15 → ⊥)
 unless_full : (ts us : List Test) (b c : Bool) (s z : Store) (o q : Outcome) → Agree s z → (Passed ts → Both o q)
     → ((unless (ts ++ (15 when b) ∷ us) s o).answer ≡ refused 15 → ⊥) → Spared (b ≡ false → c ≡ false) (unless (ts ++ (15 when c) ∷ us) z q)
     → Both (unless (ts ++ (15 when b) ∷ us) s o) (unless (ts ++ (15 when c) ∷ us) z q)
-unfolding unless if◌then◌else◌ gives
+unfolding unless if'◌then◌else◌ gives
 unless_full [] us true c s z o q a f n k = absurd (n refl)
 unless_full [] us false true s z o q a f n k = ⊎_elim (λ g. lie (sym (g refl))) (λ g. absurd (g refl)) k
 unless_full [] us false false s z o q a f n k = unless_both us s z o q a (λ p. f tt)
@@ -106,7 +106,7 @@ unless_full ((i when d) ∷ ts) us b c s z o q a f n k =
 unless_through : (X : Type 0) (ts : List Test) (s z : Store) (o q : Outcome) → Agree s z
     → ((o.answer ≡ refused 15 → ⊥) → Spared X q → Both o q)
     → ((unless ts s o).answer ≡ refused 15 → ⊥) → Spared X (unless ts z q) → Both (unless ts s o) (unless ts z q)
-unfolding unless if◌then◌else◌ gives
+unfolding unless if'◌then◌else◌ gives
 unless_through X [] s z o q a f n k = f n k
 unless_through X ((i when d) ∷ ts) s z o q a f n k =
     by d (λ h. rw h (refl, a)) (λ h. rw h (unless_through X ts s z o q a f (rw h at n) (rw h at k)))
@@ -140,7 +140,7 @@ without_in tx u os = ap (is_in u) (numbers_without tx os) ∙ in_keep u (λ y. n
 
 -- a transaction that is not open has written nothing
 pub count_none : (tx : ℕ) (os : List Active) → is_in tx (open_numbers os) ≡ false → written_by tx os ≡ 0
-unfolding open_numbers written_by is_for if◌then◌else◌
+unfolding open_numbers written_by is_for if'◌then◌else◌
 count_none tx [] h = refl
 count_none tx (o ∷ os) h =
     let n = not_in tx o.transaction (open_numbers os) h in
@@ -334,7 +334,7 @@ checkpoints_agree c s w h =
     stays (runs limit len) h = run_rows_lem limit len s (sound s w).valid
 
 pub checkpoints_unseen : CheckpointsUnseen
-unfolding answers_in keep is_transaction after_calls call if◌then◌else◌
+unfolding answers_in keep is_transaction after_calls call if'◌then◌else◌
 checkpoints_unseen [] t s z w v a i n = (refl, a)
 checkpoints_unseen (transacts c ∷ cs) t s z w v a i n =
     let b = idle_agrees c s z w v a i n.0 in

@@ -1,6 +1,6 @@
 -- The block that a store takes: in range, free, and there while enough are free.
 use Rattle.basics.proofs.Kit.{◌≡◌, refl, ap, Bool, true, false, not, ◌++◌, ℕ, suc, ◌+◌, ◌≤◌, ◌<◌, zero, ◌-◌, eqb, arith}
-use Rattle.basics.specs.Basics.{from, first, how_many, if◌then◌else◌}
+use Rattle.basics.specs.Basics.{from, first, how_many, if'◌then◌else◌}
 use Rattle.basics.proofs.Facts.{by, by-option}
 use Rattle.model.specs.State.{Store}
 use Rattle.model.specs.Checkpoint.{allocate, free_count, is_free, used_and}
@@ -60,7 +60,7 @@ module _ (s : Store) (b : ℕ) where
       (λ e. rw (used_other s b a e, count_above (suc a) k (omega arith)))
 
   pub count_one : (a k : ℕ) → how_many free (from a k) ≤ suc (how_many free_later (from a k))
-  unfolding how_many from if◌then◌else◌
+  unfolding how_many from if'◌then◌else◌
   count_one a zero = omega arith
   count_one a (suc k) =
       by (eqb b a)

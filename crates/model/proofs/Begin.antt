@@ -1,6 +1,6 @@
 -- An accepted begin keeps what holds, and its base is the store before it.
 use Rattle.basics.proofs.Kit.{◌≡◌, refl, subst, false, List, [], ◌∷◌, map, ℕ, suc, eqb, arith}
-use Rattle.basics.specs.Basics.{if◌then◌else◌}
+use Rattle.basics.specs.Basics.{if'◌then◌else◌}
 use Rattle.basics.proofs.Facts.{AllOf, by, lie}
 use Rattle.image.specs.View.{View}
 use Rattle.model.specs.State.{Page, Store, idle, running}
@@ -18,7 +18,7 @@ NothingPending p = (p.frozen ≡ false) × (shown p.tuples ≡ bare p.tuples)
 
 stored_begin : (img : View) (l : ℕ) (ps : List Page) → AllOf (Tied img l) ps → AllOf NothingPending ps
     → Stored img (suc l) (map (λ p. p.block) ps) (map content ps) (images (map freeze ps))
-unfolding images freeze is_dirty if◌then◌else◌ content is_clean
+unfolding images freeze is_dirty if'◌then◌else◌ content is_clean
 stored_begin img l [] t c = end
 stored_begin img l (p ∷ ps) t c =
     by (eqb p.block 0)

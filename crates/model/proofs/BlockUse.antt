@@ -1,7 +1,7 @@
 -- The blocks in use, the block last taken, and the entries and directory blocks of a running checkpoint: an invariant of the store alone.
 use Rattle.basics.proofs.Kit.{◌≡◌, refl, sym, ap, ◌∙◌, subst, ap₂, Bool, true, false, some, none, List, [], ◌∷◌, ◌++◌, append-nil, map, tail, ℕ, suc, ◌+◌, ◌≤◌, ◌<◌, ◌-◌, leb, eqb}
 use Rattle.basics.proofs.Kit.{ltb, length, length-append, length-map, arith}
-use Rattle.basics.specs.Basics.{is_in, any, if◌then◌else◌, how_many, sum, first}
+use Rattle.basics.specs.Basics.{is_in, any, if'◌then◌else◌, how_many, sum, first}
 use Rattle.basics.proofs.Facts.{by, AllOf, lie, by-option}
 use Rattle.block_forms.specs.Limits.{most_number, block_limit}
 use Rattle.image.specs.Stages.{is_zero, directories_for, capacity_limit}
@@ -25,7 +25,7 @@ use Rattle.model.proofs.Moves.{still_frozen}
 -- ---- entries: 0 stands for a page still to be written
 
 pub in_fill : (b x : ℕ) (es : List ℕ) → 0 < x → eqb x b ≡ false → is_in x (fill b es) ≡ is_in x es
-unfolding is_in any fill if◌then◌else◌
+unfolding is_in any fill if'◌then◌else◌
 in_fill b x [] p h = refl
 in_fill b x (e ∷ es) p h =
     by (eqb e 0)
@@ -33,12 +33,12 @@ in_fill b x (e ∷ es) p h =
     (λ k. by (eqb x e) (λ i. rw (k, i, any)) (λ i. rw (k, i, any) (in_fill b x es p h)))
 
 pub all_fill : (P : ℕ → Type 0) (b : ℕ) (es : List ℕ) → P b → AllOf P es → AllOf P (fill b es)
-unfolding fill if◌then◌else◌
+unfolding fill if'◌then◌else◌
 all_fill P b [] p a = tt
 all_fill P b (e ∷ es) p a = by (eqb e 0) (λ k. rw k (p, a.1)) (λ k. rw k (a.0, all_fill P b es p a.1))
 
 pub length_fill : (b : ℕ) (es : List ℕ) → length (fill b es) ≡ length es
-unfolding fill if◌then◌else◌
+unfolding fill if'◌then◌else◌
 length_fill b [] = refl
 length_fill b (e ∷ es) = by (eqb e 0) (λ k. rw k) (λ k. rw (k, length_fill b es))
 
@@ -63,7 +63,7 @@ pub record Running (n : ℕ) (es ds : List ℕ) (s : Store) : Type 0 where
 
 -- 1 for a page in block b
 unfoldable pub in_block : ℕ → Page → ℕ
-in_block b p = if eqb b p.block then 1 else 0
+in_block b p = if' eqb b p.block then 1 else 0
 
 -- the blocks that clean pages may have
 abbrev pub pool_of : Checkpoint → Store → ℕ → Bool
@@ -104,23 +104,23 @@ unfolding how_many
 none_zero = refl
 
 zero_head : (e : ℕ) (es : List ℕ) → eqb e 0 ≡ true → how_many is_zero (e ∷ es) ≡ suc (how_many is_zero es)
-unfolding how_many is_zero if◌then◌else◌
+unfolding how_many is_zero if'◌then◌else◌
 zero_head e es h = rw h
 
 zero_past : (e : ℕ) (es : List ℕ) → eqb e 0 ≡ false → how_many is_zero (e ∷ es) ≡ how_many is_zero es
-unfolding how_many is_zero if◌then◌else◌
+unfolding how_many is_zero if'◌then◌else◌
 zero_past e es h = rw h
 
 -- the first entry that waits is filled
 zeros_fill : (b : ℕ) (es : List ℕ) → 0 < b → 0 < how_many is_zero es → suc (how_many is_zero (fill b es)) ≡ how_many is_zero es
-unfolding fill if◌then◌else◌
+unfolding fill if'◌then◌else◌
 zeros_fill b [] p h = absurd (omega (arith, none_zero, h))
 zeros_fill b (e ∷ es) p h =
     by (eqb e 0) (λ k. rw k (ap suc (zero_past b es (pos_not_zero b p)) ∙ sym (zero_head e es k)))
     (λ k. rw k (ap suc (zero_past e (fill b es) k) ∙ zeros_fill b es p (subst (λ z. 0 < z) (zero_past e es k) h) ∙ sym (zero_past e es k)))
 
 filled : (b : ℕ) (es : List ℕ) → 0 < how_many is_zero es → is_in b (fill b es) ≡ true
-unfolding fill if◌then◌else◌
+unfolding fill if'◌then◌else◌
 filled b [] h = absurd (omega (arith, none_zero, h))
 filled b (e ∷ es) h =
     by (eqb e 0) (λ k. rw k (in_head b es))
@@ -132,8 +132,8 @@ none_waiting (e ∷ es) h =
     by (eqb e 0) (λ k. absurd (omega (arith, zero_head e es k)))
     (λ k. (not_zero e k, none_waiting es (sym (zero_past e es k) ∙ h)))
 
-many_filled : (b i : ℕ) (es : List ℕ) → how_many (eqb b) (fill i es) ≤ how_many (eqb b) es + (if eqb b i then 1 else 0)
-unfolding fill how_many if◌then◌else◌
+many_filled : (b i : ℕ) (es : List ℕ) → how_many (eqb b) (fill i es) ≤ how_many (eqb b) es + (if' eqb b i then 1 else 0)
+unfolding fill how_many if'◌then◌else◌
 many_filled b i [] = omega arith
 many_filled b i (e ∷ es) =
     by (eqb e 0)
@@ -144,7 +144,7 @@ many_filled b i (e ∷ es) =
 -- ---- pages in a block
 
 in_block_fresh : (b : ℕ) → 0 < b → (t : ℕ) (ts : List Held) → in_block b (fresh t ts) ≡ 0
-unfolding in_block fresh if◌then◌else◌
+unfolding in_block fresh if'◌then◌else◌
 in_block_fresh b h t ts = rw (pos_not_zero b h)
 
 in_block_frozen : (b : ℕ) (p : Page) (ts : List Held) → p.frozen ≡ true → in_block b (still_frozen p ts) ≡ in_block b p
@@ -153,7 +153,7 @@ in_block_frozen b p ts h = refl
 
 -- no clean page stands in a block that is not in the pool
 in_block_none : (pool : ℕ → Bool) (i : ℕ) → 0 < i → pool i ≡ false → (ps : List Page) → AllOf (Booked pool) ps → sum (in_block i) ps ≡ 0
-unfolding sum in_block is_dirty if◌then◌else◌
+unfolding sum in_block is_dirty if'◌then◌else◌
 in_block_none pool i h n [] a = refl
 in_block_none pool i h n (p ∷ ps) a =
     let l = in_block_none pool i h n ps a.1 in
@@ -162,11 +162,11 @@ in_block_none pool i h n (p ∷ ps) a =
     (λ k. rw k (omega arith))
 
 pub in_block_many : (b : ℕ) (ps : List Page) → how_many (eqb b) (map (λ p. p.block) ps) ≡ sum (in_block b) ps
-unfolding how_many sum in_block if◌then◌else◌
+unfolding how_many sum in_block if'◌then◌else◌
 in_block_many b [] = refl
 in_block_many b (p ∷ ps) = let e = in_block_many b ps in by (eqb b p.block) (λ k. rw k (omega arith)) (λ k. rw k (omega arith))
 
-in_block_clean : (b i : ℕ) (p : Page) → in_block b (record { table = p.table; block = i; frozen = false; tuples = p.tuples }) ≤ (if eqb b i then 1 else 0)
+in_block_clean : (b i : ℕ) (p : Page) → in_block b (record { table = p.table; block = i; frozen = false; tuples = p.tuples }) ≤ (if' eqb b i then 1 else 0)
 unfolding in_block
 in_block_clean b i p = omega arith
 
@@ -238,7 +238,7 @@ in_own [] = tt
 in_own (p ∷ ps) = (in_head p.block _, all_map _ _ (λ q h. in_weak q.block p.block _ h) ps (in_own ps))
 
 pub dirty_count : (ps : List Page) → how_many is_dirty ps ≡ length (images (map freeze ps))
-unfolding how_many images freeze if◌then◌else◌
+unfolding how_many images freeze if'◌then◌else◌
 dirty_count [] = refl
 dirty_count (p ∷ ps) = by (is_dirty p) (λ h. rw (h, dirty_count ps)) (λ h. rw (h, dirty_count ps))
 
@@ -285,8 +285,8 @@ pub within_more : (s : Store) (i : ℕ) → (0 < i) × (i < s.blocks) → ((c : 
 within_more s i a f c h = by (eqb i c) (λ k. subst (λ z. (0 < z) × (z < s.blocks)) (eqb-true i c k) a) (λ k. f c (rw k at h))
 
 -- what counted at most one, and none of the block taken, counts at most one
-taken_once : (c i old : ℕ) {now : ℕ} → old ≤ 1 → (c ≡ i → old ≡ 0) → now ≤ old + (if eqb c i then 1 else 0) → now ≤ 1
-unfolding if◌then◌else◌
+taken_once : (c i old : ℕ) {now : ℕ} → old ≤ 1 → (c ≡ i → old ≡ 0) → now ≤ old + (if' eqb c i then 1 else 0) → now ≤ 1
+unfolding if'◌then◌else◌
 taken_once c i old {now} l z h =
     by (eqb c i) (λ k. let e = z (eqb-true c i k) in let g : now ≤ old + 1 = (rw k at h) in omega arith) (λ k. let g : now ≤ old + 0 = (rw k at h) in omega arith)
 
@@ -313,7 +313,7 @@ module _ (s : Store) (b : BlockUse s) (n : ℕ) (es ds : List ℕ) (r : Running 
         within = within_more s i (fr.pos, fr.low) b.within;
         apart = λ c l. taken_once c i (sum (in_block c) s.pages) (b.apart c l)
             (λ e. subst (λ z. sum (in_block z) s.pages ≡ 0) (sym e) (in_block_none (λ c. is_in c es) i fr.pos off s.pages r.booked))
-            (sum_thaw (in_block c) (in_block_fresh c l) (in_block_frozen c) i (if eqb c i then 1 else 0) s.pages (in_block_clean c i));
+            (sum_thaw (in_block c) (in_block_fresh c l) (in_block_frozen c) i (if' eqb c i then 1 else 0) s.pages (in_block_clean c i));
         phase = record {
           level = r.level;
           number = r.number;
@@ -389,7 +389,7 @@ module _ (s : Store) (b : BlockUse s) (n : ℕ) (es ds : List ℕ) (r : Running 
       }
 
 pub step_use : (s : Store) → BlockUse s → BlockUse (step_at s.checkpoint s).store
-unfolding step_at step_of gives if◌then◌else◌
+unfolding step_at step_of gives if'◌then◌else◌
 step_use s b = go s.checkpoint b.phase
   where
     go : (c : Checkpoint) → Ledger c s → BlockUse (step_at c s).store
@@ -397,7 +397,7 @@ step_use s b = go s.checkpoint b.phase
     go (running n es ds) r =
         by-option (first is_frozen s.pages)
         (λ e. rw (e, step_of) (by (ltb (length ds) (directories_for (length es)))
-        (λ k. rw (k, if◌then◌else◌) (directory_use s b n es ds r e k)) (λ k. rw (k, if◌then◌else◌) (header_use s b n es ds r e))))
+        (λ k. rw (k, if'◌then◌else◌) (directory_use s b n es ds r e k)) (λ k. rw (k, if'◌then◌else◌) (header_use s b n es ds r e))))
         (λ p e. rw (e, step_of) (page_use s b n es ds r p e))
 
 -- ---- all calls

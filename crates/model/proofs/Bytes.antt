@@ -2,7 +2,7 @@
 use Rattle.block_forms.specs.Limits.{block_limit, block_size}
 use Rattle.basics.proofs.Kit.{◌≡◌, sym, ap, ◌∙◌, subst, fun_ext, true, false, not, List, [], ◌++◌, ℕ, suc, ◌+◌, ◌*◌, ◌%◌, ◌≤◌, ◌<◌, ◌/◌, ◌-◌, leb, eqb, ltb, length, take, drop}
 use Rattle.basics.proofs.Kit.{length-append, length-take, length-drop, take-append-drop, take_at, drop-drop, drop-append-add, drop_at, arith}
-use Rattle.basics.specs.Basics.{if◌then◌else◌, basics}
+use Rattle.basics.specs.Basics.{if'◌then◌else◌, basics}
 use Rattle.basics.proofs.Facts.{by, lie, and_true}
 use Rattle.block_forms.specs.Block.{header, as_header, encode_block}
 use Rattle.block_forms.specs.Decode.{decode_block}
@@ -58,7 +58,7 @@ module _ (img xs : List ℕ) (b : ℕ) (fits : block_size * b + block_size ≤ l
       (λ l. let g : i < suc b = leb-false (suc b) i l in let e : b ≡ i = omega arith in lie (sym h ∙ subst (λ z. eqb b z ≡ true) e (eqb_self b)))
 
   block_put : (i : ℕ) → view (put_block img b xs) i ≡ put (view img) b (decode_block xs) i
-  unfolding view put if◌then◌else◌
+  unfolding view put if'◌then◌else◌
   block_put i =
       by (eqb b i)
       (λ h. rw h (ap decode_block (subst (λ z. block_at (put_block img b xs) z ≡ xs) (eqb-true b i h) at_put)))
@@ -93,12 +93,12 @@ blocks_whole len e =
     (omega arith, leb-true 2 (len / block_size) l.0, leb-true (len / block_size) block_limit l.1)
 
 pub stage_is : (img : List ℕ) (n : ℕ) → length img ≡ block_size * n → 2 ≤ n → n ≤ block_limit → header_stage img ≡ header_test n (as_header (view img 0))
-unfolding header_stage block_count if◌then◌else◌
+unfolding header_stage block_count if'◌then◌else◌
 stage_is img n e l u = let q : length img / block_size ≡ n = omega arith in rw (whole_blocks_lem (length img) n e l u, q)
 
 -- with memory enough
 enough : (m : ℕ) (v : View) (st : Stage Header) (s : Store) → recover_from v st ≡ holds s → memory_for s.capacity ≤ m → recover_below m v st ≡ holds s
-unfolding recover_from recover_below if◌then◌else◌ recovered_store
+unfolding recover_from recover_below if'◌then◌else◌ recovered_store
 enough m v (refuses n) s e h = refuses-holds e
 enough m v (holds c) s e h =
     let k = pages_store c (pages_stage v c) s e in
@@ -120,12 +120,12 @@ pub record Accepted (img : List ℕ) (s : Store) : Type 0 where
 
 -- without the test of the memory
 below : (m : ℕ) (v : View) (st : Stage Header) (s : Store) → recover_below m v st ≡ holds s → recover_from v st ≡ holds s
-unfolding recover_from recover_below if◌then◌else◌
+unfolding recover_from recover_below if'◌then◌else◌
 below m v (refuses n) s e = refuses-holds e
 below m v (holds h) s e = by (ltb m (memory_for h.capacity)) (λ k. refuses-holds (rw k at e)) (λ k. rw k at e)
 
 accepted_stage : (img : List ℕ) (s : Store) → recover_from (view img) (header_stage img) ≡ holds s → Accepted img s
-unfolding recover_view recover_from header_stage block_count if◌then◌else◌ recovered_store
+unfolding recover_view recover_from header_stage block_count if'◌then◌else◌ recovered_store
 accepted_stage img s e =
     by (whole_blocks (length img))
     (λ w.
@@ -152,7 +152,7 @@ accepted_recovery m img s e = accepted_stage img s (below m (view img) (header_s
 -- what an accepted make says
 pub make_accepted : (len m n : ℕ) (s : Store) → make len m n ≡ holds s
     → (whole_blocks len ≡ true) × (1 ≤ n) × (n ≤ capacity_limit) × (memory_for n ≤ m) × (s ≡ fresh_store (len / block_size) n)
-unfolding make if◌then◌else◌
+unfolding make if'◌then◌else◌
 make_accepted len m n s e =
     by (not (whole_blocks len)) (λ a. refuses-holds (rw a at e))
     (λ a. by (ltb n 1) (λ b. refuses-holds (rw (a, b) at e))
@@ -184,7 +184,7 @@ fresh_view v b n l u e = rw (e, eqb_self b, le_true 1 n l, le_true n capacity_li
 
 -- the image of a store just made holds that store
 pub made_accepted : (img : List ℕ) (m n : ℕ) (s : Store) → make (length img) m n ≡ holds s → Accepted (made_image img n) s
-unfolding made_image header_for fresh_store put if◌then◌else◌
+unfolding made_image header_for fresh_store put if'◌then◌else◌
 made_accepted img m n s e =
     let k = make_accepted (length img) m n s e in
     let c = blocks_whole (length img) k.0 in

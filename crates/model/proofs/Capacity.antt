@@ -1,6 +1,6 @@
 -- Every header has the capacity of the store: what is recovered has it too, wherever the stores are cut.
 use Rattle.basics.proofs.Kit.{◌≡◌, refl, sym, ap, ◌∙◌, subst, ◌&&◌, some, none, Option, List, [], ◌∷◌, ◌++◌, map, ℕ, suc, zero, min, eqb, ltb, length}
-use Rattle.basics.specs.Basics.{if◌then◌else◌, first}
+use Rattle.basics.specs.Basics.{if'◌then◌else◌, first}
 use Rattle.basics.proofs.Facts.{AllOf, by}
 use Rattle.block_forms.specs.Block.{Block, as_header}
 use Rattle.block_forms.specs.declared.Header.{Header}
@@ -33,7 +33,7 @@ abbrev Capacity : ℕ → Store → List Write → Type 0
 Capacity cap t ws = (t.capacity ≡ cap) × AllOf (λ w. Apt cap w.what) ws
 
 capacity_of : (o : Option Page) (n : ℕ) (es ds : List ℕ) (s : Store) → Capacity s.capacity (step_of o n es ds s).store (step_of o n es ds s).writes
-unfolding step_of store_page store_directory store_header made with_progress header_for if◌then◌else◌
+unfolding step_of store_page store_directory store_header made with_progress header_for if'◌then◌else◌
 capacity_of (some p) n es ds s = (refl, (tt, tt))
 capacity_of none n es ds s = by (ltb (length ds) (directories_for (length es))) (λ h. rw h (refl, (tt, tt))) (λ h. rw h (refl, (refl, tt)))
 
@@ -65,13 +65,13 @@ log_apt cap past base s [] e = tt
 log_apt cap past base s (c ∷ cs) e =
     let o = call c s in
     let k = subst (λ z. AllOf (λ w. Apt z w.what) o.writes) e (capacity_call c s) in
-    let base' = if is_begin c && accepted o.answer then past else base in
+    let base' = if' is_begin c && accepted o.answer then past else base in
     all_append _ (map (tag base') o.writes) (log (past ++ c ∷ []) base' o.store cs) (all_mapped _ (tag base') o.writes k)
     (log_apt cap (past ++ c ∷ []) base' o.store cs ((call_leaves c s).capacity ∙ e))
 
 cut_apt : (cap : ℕ) {v : View} {base : List Call} {ws : List Logged} {v' : View} {base' : List Call} → CutV v base ws v' base' → Apt cap (v 0)
     → AllOf (λ w. Apt cap w.write.what) ws → Apt cap (v' 0)
-unfolding put is_header if◌then◌else◌
+unfolding put is_header if'◌then◌else◌
 cut_apt cap stop a b = a
 cut_apt cap (torn h x) a b = rw h a
 cut_apt cap {v} (whole {w = w} c) a b = cut_apt cap c (by (eqb w.write.at 0) (λ h. rw h b.0) (λ h. rw h a)) b.1

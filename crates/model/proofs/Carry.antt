@@ -1,7 +1,7 @@
 -- Operations by place at entry, carried out one after another, are the operations by number: what went since stood before.
 use Rattle.basics.proofs.Kit.{◌≡◌, refl, sym, ap, ◌∙◌, subst, ⊎_elim, ◌≢◌, List, [], ◌∷◌, ◌++◌, append_assoc, map, ℕ, suc, ◌+◌, ◌≤◌, ◌<◌, ◌-◌, eqb, length, take, drop, get_or, length-append}
 use Rattle.basics.proofs.Kit.{length-take, length-drop, take-append-drop, length-map, drop-drop, drop-cons, arith}
-use Rattle.basics.specs.Basics.{if◌then◌else◌}
+use Rattle.basics.specs.Basics.{if'◌then◌else◌}
 use Rattle.basics.proofs.Facts.{by, AllOf}
 use Rattle.model.specs.State.{Page}
 use Rattle.model.specs.Sight.{held}
@@ -52,7 +52,7 @@ tail_more ns k j ms t h =
     }
 
 place_seam : (n : ℕ) (a b : List ℕ) → AllOf (λ x. x ≢ n) a → place_in n (a ++ n ∷ b) ≡ length a
-unfolding first_index if◌then◌else◌
+unfolding first_index if'◌then◌else◌
 place_seam n [] b h = rw (eqb_self n)
 place_seam n (x ∷ a) b h = by (eqb x n) (λ e. absurd (h.0 (eqb-true x n e))) (λ e. rw (e, place_seam n a b h.1))
 

@@ -1,6 +1,6 @@
 -- The table of cases, by computation; and that the stores of many pages are well formed.
 use Rattle.basics.proofs.Kit.{◌≡◌, refl, true, false, [], map, ℕ, suc, ◌+◌, ◌≤◌, ◌<◌, zero, eqb, arith}
-use Rattle.basics.specs.Basics.{if◌then◌else◌, any, all, every, how_many, is_in, distinct, from}
+use Rattle.basics.specs.Basics.{if'◌then◌else◌, any, all, every, how_many, is_in, distinct, from}
 use Rattle.basics.proofs.Facts.{by, lie}
 use Rattle.block_forms.specs.Tuple.{AllFit}
 use Rattle.image_rows.specs.Rows.{rows_of, rows_ok}
@@ -13,12 +13,12 @@ use Rattle.basics.proofs.Elements.{eqb-true, in_all}
 use Rattle.basics.proofs.Firsts.{all_from}
 
 many_below : (b a n : ℕ) → b < a → how_many (λ p. eqb b p.block) (map clean_page (from a n)) ≡ 0
-unfolding how_many from clean_page if◌then◌else◌
+unfolding how_many from clean_page if'◌then◌else◌
 many_below b a zero h = refl
 many_below b a (suc n) h = by (eqb b a) (λ e. absurd (omega (arith, h, eqb-true b a e))) (λ e. rw e (many_below b (suc a) n (omega arith)))
 
 once_each : (b a n : ℕ) → how_many (λ p. eqb b p.block) (map clean_page (from a n)) ≤ 1
-unfolding how_many from clean_page if◌then◌else◌
+unfolding how_many from clean_page if'◌then◌else◌
 once_each b a zero = omega arith
 once_each b a (suc n) = by (eqb b a) (λ e. rw e (omega (arith, many_below b (suc a) n (omega (arith, eqb-true b a e))))) (λ e. rw e (once_each b (suc a) n))
 

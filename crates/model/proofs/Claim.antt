@@ -1,7 +1,7 @@
 -- The claims on views, with no assumption left.
 use Rattle.block_forms.specs.Limits.{block_limit}
 use Rattle.basics.proofs.Kit.{◌≡◌, refl, ap, ◌∙◌, true, List, [], ◌∷◌, ◌≤◌}
-use Rattle.basics.specs.Basics.{if◌then◌else◌}
+use Rattle.basics.specs.Basics.{if'◌then◌else◌}
 use Rattle.basics.proofs.Facts.{AllOf}
 use Rattle.basics.proofs.Members.{once_many}
 use Rattle.image.specs.Stages.{holds}
@@ -69,7 +69,7 @@ module _ (v : View) (sane : AllSane v) (s : Store) (two : 2 ≤ s.blocks) (most 
           pages = r.2.pages;
           next = r.2.next;
           writers = λ tx. once_many tx (open_numbers r.0.active) (start_distinct s.blocks v' r.0 (found s.blocks v' r.0 r.1))
-              ∙ ap (λ b. if b then 1 else 0)
+              ∙ ap (λ b. if' b then 1 else 0)
               (r.2.active tx ∙ writers_law s start_valid.0 start_valid.1 (start_active s.blocks v s at_start start_ready.same) base tx);
         },
       )

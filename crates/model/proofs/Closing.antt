@@ -1,6 +1,6 @@
 -- Commit and abort keep what holds of the live rows.
 use Rattle.basics.proofs.Kit.{◌≡◌, refl, sym, ap, ◌∙◌, subst, ap₂, Bool, true, false, not, some, none, Option, List, [], ◌∷◌, ◌++◌, ℕ, ◌+◌, eqb}
-use Rattle.basics.specs.Basics.{how_many, keep, if◌then◌else◌, last}
+use Rattle.basics.specs.Basics.{how_many, keep, if'◌then◌else◌, last}
 use Rattle.basics.proofs.Facts.{AllOf, lie, by, and_true, by-option, never}
 use Rattle.block_forms.specs.Tuple.{committed, tentative, Owner}
 use Rattle.image_rows.specs.Rows.{Row, is_own, is_by, earlier_by, statement_is, mark_ok, statement_ok, number, starts_well, is_at, owner_after}
@@ -181,20 +181,20 @@ unfolding by_newest
 newest_all P none r f g = (f refl, tt)
 newest_all P (some x) r f g = go x.1.mark refl (is_row (number x) r) refl
   where
-    go : (m : Bool) → x.1.mark ≡ m → (b : Bool) → is_row (number x) r ≡ b → AllOf P (if m then [] else if b then kept_row x else [])
-    go true m b k = unfold if◌then◌else◌ in tt
-    go false m true k = unfold if◌then◌else◌ kept_row in (g x refl m k, tt)
-    go false m false k = unfold if◌then◌else◌ in tt
+    go : (m : Bool) → x.1.mark ≡ m → (b : Bool) → is_row (number x) r ≡ b → AllOf P (if' m then [] else if' b then kept_row x else [])
+    go true m b k = unfold if'◌then◌else◌ in tt
+    go false m true k = unfold if'◌then◌else◌ kept_row in (g x refl m k, tt)
+    go false m false k = unfold if'◌then◌else◌ in tt
 
 newest_one : (R : Row → Row → Type 0) (o : Option Row) (r : Row) → Pairs R (by_newest o r)
 unfolding by_newest
 newest_one R none r = (tt, tt)
 newest_one R (some x) r = go x.1.mark (is_row (number x) r)
   where
-    go : (m b : Bool) → Pairs R (if m then [] else if b then kept_row x else [])
-    go true b = unfold if◌then◌else◌ in tt
-    go false true = unfold if◌then◌else◌ kept_row in (tt, tt)
-    go false false = unfold if◌then◌else◌ in tt
+    go : (m b : Bool) → Pairs R (if' m then [] else if' b then kept_row x else [])
+    go true b = unfold if'◌then◌else◌ in tt
+    go false true = unfold if'◌then◌else◌ kept_row in (tt, tt)
+    go false false = unfold if'◌then◌else◌ in tt
 
 own_both : (tx t k : ℕ) (r : Row) → own_at tx t k r ≡ true → (is_own tx r ≡ true) × (is_at t k r ≡ true)
 unfolding own_at
@@ -300,11 +300,11 @@ module _ (tx : ℕ) (os : List ℕ) (rs : List Row) (L : LiveOk os rs) (D : Pair
   -- ---- abort
 
   abort_own : (r : Row) → is_own tx r ≡ true → after_abort tx r ≡ []
-  unfolding after_abort if◌then◌else◌
+  unfolding after_abort if'◌then◌else◌
   abort_own r h = rw h
 
   abort_not : (r : Row) → is_own tx r ≡ false → after_abort tx r ≡ r ∷ []
-  unfolding after_abort if◌then◌else◌
+  unfolding after_abort if'◌then◌else◌
   abort_not r h = rw h
 
   abort_all : (P : Row → Type 0) (r : Row) → (is_own tx r ≡ false → P r) → AllOf P (after_abort tx r)

@@ -1,6 +1,6 @@
 -- The claims over an invariant of the store alone: `Valid`, which every call keeps and which makes an idle store `Ready`.
 use Rattle.basics.proofs.Kit.{◌≡◌, refl, sym, ap, ◌∙◌, subst, Bool, true, false, not, List, [], ◌∷◌, ◌++◌, append-nil, map, ℕ, suc, ◌≤◌, zero, min, eqb, ltb, length}
-use Rattle.basics.specs.Basics.{if◌then◌else◌, first}
+use Rattle.basics.specs.Basics.{if'◌then◌else◌, first}
 use Rattle.basics.proofs.Facts.{AllOf, by, by-option}
 use Rattle.block_forms.specs.Block.{Block}
 use Rattle.block_forms.specs.Limits.{most_number, block_limit}
@@ -67,8 +67,8 @@ inv_kept n img s b b₀ o q inv =
 -- ---- begin and step
 
 begin_out : (n : ℕ) (img : View) (s b b₀ : Store) → (s.checkpoint ≡ idle → Ready s) → Inv n img s b b₀
-    → ((begin_call s).writes ≡ []) × Inv n img (begin_call s).store (if accepted (begin_call s).answer then s else b) b₀
-unfolding begin_call unless gives accepted if◌then◌else◌
+    → ((begin_call s).writes ≡ []) × Inv n img (begin_call s).store (if' accepted (begin_call s).answer then s else b) b₀
+unfolding begin_call unless gives accepted if'◌then◌else◌
 begin_out n img s b b₀ rd inv =
     by (is_running s.checkpoint) (λ h. rw h (refl, inv))
     (λ h. by (eqb s.level most_number) (λ k. rw (h, k) (refl, inv))
@@ -76,7 +76,7 @@ begin_out n img s b b₀ rd inv =
     (λ m. let i = idle_of s.checkpoint h in rw (h, k, m) (refl, begin_inv n img s b b₀ inv i (rd i)))))
 
 step_inv : (n : ℕ) (img : View) (s b b₀ : Store) → BlockUse s → FrozenSmall s → Inv n img s b b₀ → Stepped n img s b b₀ (step_at s.checkpoint s)
-unfolding step_at gives if◌then◌else◌ step_of
+unfolding step_at gives if'◌then◌else◌ step_of
 step_inv n img s b b₀ bk sm inv = go s.checkpoint bk.phase inv.phase
   where
     go : (c : Checkpoint) → Ledger c s → Phase img s b c → Stepped n img s b b₀ (step_at c s)
@@ -84,15 +84,15 @@ step_inv n img s b b₀ bk sm inv = go s.checkpoint bk.phase inv.phase
     go (running n₀ es ds) l r =
         by-option (first is_frozen s.pages)
         (λ e. rw (e, step_of) (by (ltb (length ds) (directories_for (length es)))
-        (λ k. rw (k, if◌then◌else◌) (directory_step n img s b b₀ n₀ es ds bk l inv r e k))
-        (λ k. rw (k, if◌then◌else◌) (header_step n img s b b₀ n₀ es ds bk l inv r e k))))
+        (λ k. rw (k, if'◌then◌else◌) (directory_step n img s b b₀ n₀ es ds bk l inv r e k))
+        (λ k. rw (k, if'◌then◌else◌) (header_step n img s b b₀ n₀ es ds bk l inv r e k))))
         (λ p e. rw (e, step_of) (page_step n img s b b₀ n₀ es ds p bk l inv r sm e))
 
 -- ---- the stores of a list of calls: every cut recovers, and every block written is in range
 
 landed_after : (c : Bool) (base base₀ : List Call) (s₀ : Store)
-    → (if c then after_calls base s₀ else after_calls base₀ s₀) ≡ after_calls (if c then base else base₀) s₀
-unfolding if◌then◌else◌
+    → (if' c then after_calls base s₀ else after_calls base₀ s₀) ≡ after_calls (if' c then base else base₀) s₀
+unfolding if'◌then◌else◌
 landed_after true base base₀ s₀ = refl
 landed_after false base base₀ s₀ = refl
 
@@ -148,7 +148,7 @@ module _ (n : ℕ) (s₀ : Store) (Okay : Call → Type 0) (Valid : Store → Ty
   step_goes img s base base₀ o more rest v inv (wrote w e low fit top t i) r =
       subst (λ ws. Goes img base₀ (map (tag base) (ws ++ more) ++ rest)) (sym e)
       (goes_cons img s.used base₀ (tag base w) (map (tag base) more ++ rest) inv.good t (λ m f. (low, fit m (f s v))) top
-      (r (put img w.at w.what) (if eqb w.at 0 then base else base₀)
+      (r (put img w.at w.what) (if' eqb w.at 0 then base else base₀)
       (subst (λ z. Inv n (put img w.at w.what) o.store (after_calls base s₀) z) (landed_after (eqb w.at 0) base base₀ s₀) i)))
 
   in_turn_goes : (k : ℕ) (img : View) (s : Store) (base base₀ : List Call) (rest : List Logged) → Valid s → Now img s base base₀
@@ -167,7 +167,7 @@ module _ (n : ℕ) (s₀ : Store) (Okay : Call → Type 0) (Valid : Store → Ty
 
   step_log : (len : ℕ) (img : View) (s : Store) (past base base₀ : List Call) (cs : List Call) → Valid s → Now img s base base₀
       → Rest (past ++ steps len ∷ []) base (step_call len s).store cs → Goes img base₀ (log past base s (steps len ∷ cs))
-  unfolding log if◌then◌else◌ call is_begin step_call
+  unfolding log if'◌then◌else◌ call is_begin step_call
   step_log len img s past base base₀ cs v inv r =
       let past' = past ++ steps len ∷ [] in
       let o = step_at s.checkpoint s in
@@ -178,7 +178,7 @@ module _ (n : ℕ) (s₀ : Store) (Okay : Call → Type 0) (Valid : Store → Ty
 
   run_log : (limit len : ℕ) (img : View) (s : Store) (past base base₀ : List Call) (cs : List Call) → Valid s → Now img s base base₀
       → Rest (past ++ runs limit len ∷ []) base (run_call limit len s).store cs → Goes img base₀ (log past base s (runs limit len ∷ cs))
-  unfolding log if◌then◌else◌ call is_begin run_call
+  unfolding log if'◌then◌else◌ call is_begin run_call
   run_log limit len img s past base base₀ cs v inv r =
       let past' = past ++ runs limit len ∷ [] in
       let k = min limit (left s) in
@@ -189,7 +189,7 @@ module _ (n : ℕ) (s₀ : Store) (Okay : Call → Type 0) (Valid : Store → Ty
 
   without_stores : (c : TransactionCall) (img : View) (s : Store) (past base base₀ : List Call) (cs : List Call)
       → Now img s base base₀ → Rest (past ++ transacts c ∷ []) base (transact c s).store cs → Goes img base₀ (log past base s (transacts c ∷ cs))
-  unfolding log if◌then◌else◌ call is_begin
+  unfolding log if'◌then◌else◌ call is_begin
   without_stores c img s past base base₀ cs inv r =
       let o = transact c s in
       let q = no_stores s c in
@@ -198,12 +198,12 @@ module _ (n : ℕ) (s₀ : Store) (Okay : Call → Type 0) (Valid : Store → Ty
 
   begin_safe : (img : View) (s : Store) (past base base₀ : List Call) (cs : List Call) → s ≡ after_calls past s₀ → Valid s → Now img s base base₀
       → ((base' : List Call) → Rest (past ++ begins ∷ []) base' (begin_call s).store cs) → Goes img base₀ (log past base s (begins ∷ cs))
-  unfolding log if◌then◌else◌ call is_begin
+  unfolding log if'◌then◌else◌ call is_begin
   begin_safe img s past base base₀ cs e v inv r =
       let o = begin_out n img s (after_calls base s₀) (after_calls base₀ s₀) (ready s v) inv in
-      let base' = if accepted (begin_call s).answer then past else base in
+      let base' = if' accepted (begin_call s).answer then past else base in
       let i : Now img (begin_call s).store base' base₀ = subst (λ z. Inv n img (begin_call s).store z (after_calls base₀ s₀))
-      (ap (λ z. if accepted (begin_call s).answer then z else after_calls base s₀) e ∙ landed_after (accepted (begin_call s).answer) past base s₀) o.1 in
+      (ap (λ z. if' accepted (begin_call s).answer then z else after_calls base s₀) e ∙ landed_after (accepted (begin_call s).answer) past base s₀) o.1 in
       subst (λ ws. Goes img base₀ (map (tag base') ws ++ log (past ++ begins ∷ []) base' (begin_call s).store cs)) (sym o.0) (r base' img base₀ i)
 
   one : (c : Call) (img : View) (s : Store) (past base base₀ : List Call) (cs : List Call) → s ≡ after_calls past s₀ → Valid s → Now img s base base₀

@@ -2,7 +2,7 @@
 -- On rising tuples the runs are the keys (Runs), so what is seen of a run is what is seen of its key, and a key without a run
 -- has no version.
 use Rattle.basics.proofs.Kit.{◌≡◌, refl, sym, ap, ◌∙◌, subst, ap₂, Bool, true, false, ◌&&◌, ◌||◌, some, Option, none, List, [], ◌∷◌, ◌++◌, append-nil, ℕ, ◌≤◌, ◌<◌, suc, eqb, ltb, arith}
-use Rattle.basics.specs.Basics.{if◌then◌else◌, keep, any, last, is_in}
+use Rattle.basics.specs.Basics.{if'◌then◌else◌, keep, any, last, is_in}
 use Rattle.basics.proofs.Facts.{by, lie, never, by-option, AllOf}
 use Rattle.basics.proofs.Elements.{Pairs, all_map, all_two, all_parts, all_append, all_mem, all_keep, kept_mem, mem_all, pairs_parts, pairs_append, pairs_map, pairs_keep}
 use Rattle.basics.proofs.Elements.{keep_append, keep_all, keep_none}
@@ -75,26 +75,26 @@ table_append t a b = ap (InTable t) (rows_append a b) ∙ keep_append (λ r. eqb
 module _ (tx first end : ℕ) where
   -- what is seen is one of the versions
   pub seen_all : (P : Row → Type 0) (vs : List Row) (r : Row) → seen_of tx vs ≡ some r → AllOf P vs → P r
-  unfolding seen_of if◌then◌else◌
+  unfolding seen_of if'◌then◌else◌
   seen_all P vs r e a =
       by-option (last (is_own tx) vs)
       (λ n. first_all _ P vs r (rw (n, seen_of) at e) a)
-      (λ x n. let q : (if x.1.mark then none else some x) ≡ some r = rw (n, seen_of) at e in
-      let pick : Bool → Option Row = λ b. if b then none else some x in
+      (λ x n. let q : (if' x.1.mark then none else some x) ≡ some r = rw (n, seen_of) at e in
+      let pick : Bool → Option Row = λ b. if' b then none else some x in
       by x.1.mark (λ m. never (sym (ap pick m) ∙ q)) (λ m. subst P (some_eq (sym (ap pick m) ∙ q)) (mem_all P (last_mem (is_own tx) vs x n).0 a)))
 
   key_all : (P : ℕ → Type 0) (o : Option Row) → ((r : Row) → o ≡ some r → P r.1.key) → AllOf P (key_if first end o)
-  unfolding key_if if◌then◌else◌
+  unfolding key_if if'◌then◌else◌
   key_all P none f = tt
   key_all P (some r) f = by (crosses first end r.1) (λ h. rw h (f r refl, tt)) (λ h. rw h tt)
 
   key_in : (k : ℕ) (o : Option Row) → ((r : Row) → o ≡ some r → r.1.key ≡ k) → is_in k (key_if first end o) ≡ seen_crosses first end o
-  unfolding key_if seen_crosses if◌then◌else◌ is_in any
+  unfolding key_if seen_crosses if'◌then◌else◌ is_in any
   key_in k none f = refl
   key_in k (some r) f = by (crosses first end r.1) (λ h. rw (h, f r refl) (in_head k [])) (λ h. rw h)
 
   key_alone : (R : ℕ → ℕ → Type 0) (o : Option Row) → Pairs R (key_if first end o)
-  unfolding key_if if◌then◌else◌
+  unfolding key_if if'◌then◌else◌
   key_alone R none = tt
   key_alone R (some r) = by (crosses first end r.1) (λ h. rw h (tt, tt)) (λ h. rw h tt)
 

@@ -1,7 +1,7 @@
 -- The walk from both ends stops at the tuple that ends the first part of a split (`ends_first_part`).
 use Rattle.basics.proofs.Kit.{◌≡◌, refl, sym, ap, ◌∙◌, List, [], ◌∷◌, map, ℕ, zero, suc, ◌+◌, ◌*◌, ◌≤◌, ◌<◌, ltb, length, length-map, get_or, take, take-length}
 use Rattle.basics.proofs.Kit.{le-leb, lt-leb, lt-ltb, le-ltb, ltb-true, ltb-false, arith}
-use Rattle.basics.specs.Basics.{if◌then◌else◌, sum}
+use Rattle.basics.specs.Basics.{if'◌then◌else◌, sum}
 use Rattle.basics.proofs.Facts.{by}
 use Rattle.basics.proofs.Lists.{sum_take_next, sum_take_more}
 use Rattle.model.specs.State.{Held}
@@ -27,7 +27,7 @@ size_to hs k = sum held_size (take k hs)
 
 -- the first part ends with the tuple by which half is reached
 lead_at : (w a : ℕ) (hs : List Held) (k : ℕ) → k < length hs → (0 < k → 2 * (a + size_to hs k) < w) → w ≤ 2 * (a + size_to hs (suc k)) → lead w a hs ≡ suc k
-unfolding lead sum if◌then◌else◌
+unfolding lead sum if'◌then◌else◌
 lead_at w a [] k l below reached = absurd (omega arith)
 lead_at w a (h ∷ hs) zero l below reached = rw (le-leb w (2 * (a + held_size h)) (omega arith))
 lead_at w a (h ∷ hs) (suc k) l below reached =

@@ -1,6 +1,6 @@
 -- What a transaction call does: it is refused, only answers, opens, writes, commits or aborts. A proof about all of them has one case for each of these.
 use Rattle.basics.proofs.Kit.{◌≡◌, refl, sym, subst, Bool, true, false, not, ◌||◌, some, none, Option, List, [], ◌∷◌, ◌++◌, ℕ, suc, ◌≤◌, ◌<◌, eqb, length, arith}
-use Rattle.basics.specs.Basics.{if◌then◌else◌, any, is_empty, is_some, is_in, first, last}
+use Rattle.basics.specs.Basics.{if'◌then◌else◌, any, is_empty, is_some, is_in, first, last}
 use Rattle.basics.proofs.Facts.{by, lie}
 use Rattle.block_forms.specs.Limits.{payload_limit, most_number, most_transaction, transaction_limit}
 use Rattle.image_rows.specs.Rows.{Row, open_limit}
@@ -19,7 +19,7 @@ use Rattle.basics.proofs.Elements.{leb-false, not-false}
 -- a property of the store after a call and the blocks written: none if it is refused
 pub unless_out : (P : Store → List Write → Type 0) (ts : List Test) (s : Store) (o : Outcome) → P s [] → P o.store o.writes
     → P (unless ts s o).store (unless ts s o).writes
-unfolding unless if◌then◌else◌ gives
+unfolding unless if'◌then◌else◌ gives
 unless_out P [] s o p q = q
 unless_out P ((n when b) ∷ ts) s o p q = by b (λ h. rw h p) (λ h. rw h (unless_out P ts s o p q))
 
@@ -29,22 +29,22 @@ Passed ((n when b) ∷ ts) = (b ≡ false) × Passed ts
 
 -- a property of the store that an accepted call keeps: the tests passed
 pub unless_keeps : (P : Store → Type 0) (ts : List Test) (s : Store) (o : Outcome) → P s → (Passed ts → P o.store) → P (unless ts s o).store
-unfolding unless if◌then◌else◌ gives
+unfolding unless if'◌then◌else◌ gives
 unless_keeps P [] s o v f = f tt
 unless_keeps P ((n when b) ∷ ts) s o v f = by b (λ h. rw h v) (λ h. rw h (unless_keeps P ts s o v (λ p. f (h, p))))
 
 -- a property of the outcome of an accepted call: its tests passed
 pub unless_accepted : (P : Outcome → Type 0) (ts : List Test) (s : Store) (o : Outcome) → (Passed ts → accepted o.answer ≡ true → P o)
     → accepted (unless ts s o).answer ≡ true → P (unless ts s o)
-unfolding unless if◌then◌else◌ gives accepted
+unfolding unless if'◌then◌else◌ gives accepted
 unless_accepted P [] s o f h = f tt h
 unless_accepted P ((n when b) ∷ ts) s o f h =
     by b (λ k. lie (rw k at h))
-    (λ k. subst (λ z. P (if z then gives (refused n) s else unless ts s o)) (sym k) (unless_accepted P ts s o (λ p. f (k, p)) (rw k at h)))
+    (λ k. subst (λ z. P (if' z then gives (refused n) s else unless ts s o)) (sym k) (unless_accepted P ts s o (λ p. f (k, p)) (rw k at h)))
 
 -- a test that does not hold can be left out
 pub unless_skip : (ts us : List Test) (n : ℕ) (b : Bool) (s : Store) (o : Outcome) → b ≡ false → unless (ts ++ (n when b) ∷ us) s o ≡ unless (ts ++ us) s o
-unfolding unless if◌then◌else◌
+unfolding unless if'◌then◌else◌
 unless_skip [] us n b s o e = rw e
 unless_skip ((i when c) ∷ ts) us n b s o e = by c (λ h. rw h) (λ h. rw h (unless_skip ts us n b s o e))
 
@@ -76,7 +76,7 @@ pub data Does (c : TransactionCall) (s : Store) : Outcome → Type 0 where
 -- ---- every call has one
 
 does_unless : (c : TransactionCall) (s : Store) (ts : List Test) (o : Outcome) → (Passed ts → Does c s o) → Does c s (unless ts s o)
-unfolding unless if◌then◌else◌
+unfolding unless if'◌then◌else◌
 does_unless c s [] o f = f tt
 does_unless c s ((n when b) ∷ ts) o f = by b (λ h. rw h (refuses n)) (λ h. rw h (does_unless c s ts o (λ p. f (h, p))))
 

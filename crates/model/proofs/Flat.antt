@@ -1,7 +1,7 @@
 -- What an operation at a row does, on any pages: to its page, and to the list of all tuples.
 use Rattle.basics.proofs.Kit.{◌≡◌, refl, sym, ap, ◌∙◌, ap₂, Bool, true, false, some, none, Option, List, [], ◌∷◌, ◌++◌, append_assoc, map, ℕ, suc, ◌+◌, ◌≤◌, ◌<◌, zero, ◌-◌, length, take}
 use Rattle.basics.proofs.Kit.{drop, get_or, set, length-append, take-append-drop, length-set, length-map, set-get_or, arith}
-use Rattle.basics.specs.Basics.{if◌then◌else◌, is_empty}
+use Rattle.basics.specs.Basics.{if'◌then◌else◌, is_empty}
 use Rattle.basics.proofs.Facts.{by, lie}
 use Rattle.model.specs.State.{Pending, nothing, adding, committing, removing, Held, Page}
 use Rattle.model.specs.Rules.{list_of, fresh, with_tuples, settle, remove_now, pend_remove, commit_now, pend_commit, is_adding, is_removing, with_pending}
@@ -88,25 +88,25 @@ module _ (g : Held → List Held) (d : Held) where
   edit_one x (y ∷ ys) (suc j) e = ap (λ z. y ∷ z) (edit_one x ys j e)
 
 taken_is : (j : ℕ) (hs left : List Held) → edit_at pend_remove j hs ≡ left → 0 < length left → pend_remove_at j hs ≡ left
-unfolding pend_remove_at if◌then◌else◌
-taken_is j hs left e l = ap (λ z. if is_empty z then hs else z) e ∙ ap (λ b. if b then hs else left) (nonempty left l)
+unfolding pend_remove_at if'◌then◌else◌
+taken_is j hs left e l = ap (λ z. if' is_empty z then hs else z) e ∙ ap (λ b. if' b then hs else left) (nonempty left l)
 
 -- the removal of tuple j on a frozen page
 module _ (j : ℕ) (hs : List Held) (d : Held) (inside : j < length hs) where
   later_none : is_adding (get_or hs j d).pending ≡ true → edit_at pend_remove j hs ≡ remove_at j hs
-  unfolding pend_remove if◌then◌else◌
+  unfolding pend_remove if'◌then◌else◌
   later_none e = edit_none pend_remove d hs j inside (rw e)
 
   -- the last one stays
   pub taken_last : is_adding (get_or hs j d).pending ≡ true → length hs ≡ 1 → pend_remove_at j hs ≡ hs
-  unfolding pend_remove_at if◌then◌else◌ is_empty
-  taken_last e l = ap (λ z. if is_empty z then hs else z) (later_none e ∙ length_zero (remove_at j hs) (length_remove j hs inside ∙ omega arith))
+  unfolding pend_remove_at if'◌then◌else◌ is_empty
+  taken_last e l = ap (λ z. if' is_empty z then hs else z) (later_none e ∙ length_zero (remove_at j hs) (length_remove j hs inside ∙ omega arith))
 
   pub taken_away : is_adding (get_or hs j d).pending ≡ true → 1 < length hs → pend_remove_at j hs ≡ remove_at j hs
   taken_away e l = taken_is j hs (remove_at j hs) (later_none e) (omega (arith, length_remove j hs inside))
 
   pub taken_noted : (x : Held) → is_adding (get_or hs j d).pending ≡ false → x ≡ with_pending removing (get_or hs j d) → pend_remove_at j hs ≡ set hs j x
-  unfolding pend_remove if◌then◌else◌
+  unfolding pend_remove if'◌then◌else◌
   taken_noted x e ex = taken_is j hs (set hs j x) (edit_one pend_remove d x hs j (rw (e, ex) refl)) (omega (arith, length-set hs j x))
 
 module _ (p : Page) (j : ℕ) (d : Held) (inside : j < length p.tuples) where
@@ -114,38 +114,38 @@ module _ (p : Page) (j : ℕ) (d : Held) (inside : j < length p.tuples) where
   page_removed f = by p.frozen (λ h. frozen h (f h)) (λ h. thawed h)
     where
       frozen : p.frozen ≡ true → (is_adding (get_or p.tuples j d).pending ≡ true) × (1 < length p.tuples) → removed_on j p ≡ remove_at j p.tuples
-      frozen h a = unfold removed_on if◌then◌else◌ in ap (λ b. if b then pend_remove_at j p.tuples else edit_at remove_now j p.tuples) h
+      frozen h a = unfold removed_on if'◌then◌else◌ in ap (λ b. if' b then pend_remove_at j p.tuples else edit_at remove_now j p.tuples) h
           ∙ taken_away j p.tuples d inside a.0 a.1
 
       thawed : p.frozen ≡ false → removed_on j p ≡ remove_at j p.tuples
-      thawed h = unfold removed_on if◌then◌else◌ remove_now in ap (λ b. if b then pend_remove_at j p.tuples else edit_at remove_now j p.tuples) h
+      thawed h = unfold removed_on if'◌then◌else◌ remove_now in ap (λ b. if' b then pend_remove_at j p.tuples else edit_at remove_now j p.tuples) h
           ∙ edit_none remove_now d p.tuples j inside refl
 
   page_noted : p.frozen ≡ true → is_adding (get_or p.tuples j d).pending ≡ false → removed_on j p ≡ set p.tuples j (with_pending removing (get_or p.tuples j d))
-  unfolding removed_on if◌then◌else◌
+  unfolding removed_on if'◌then◌else◌
   page_noted h a =
-      ap (λ b. if b then pend_remove_at j p.tuples else edit_at remove_now j p.tuples) h
+      ap (λ b. if' b then pend_remove_at j p.tuples else edit_at remove_now j p.tuples) h
       ∙ taken_noted j p.tuples d inside _ a refl
 
   page_committed : committed_on j p ≡ set p.tuples j (committed_tuple p.frozen (get_or p.tuples j d))
   page_committed = by p.frozen (λ h. frozen h) (λ h. thawed h)
     where
       both : Bool → List Held
-      both b = if b then edit_at pend_commit j p.tuples else edit_at commit_now j p.tuples
+      both b = if' b then edit_at pend_commit j p.tuples else edit_at commit_now j p.tuples
 
       later : (h : Held) → pend_commit h ≡ committed_tuple true h ∷ []
-      later h = unfold pend_commit commit_now committed_tuple if◌then◌else◌ in by (is_adding h.pending) (λ a. rw a)
+      later h = unfold pend_commit commit_now committed_tuple if'◌then◌else◌ in by (is_adding h.pending) (λ a. rw a)
           (λ a. by (is_removing h.pending) (λ r. rw (a, r)) (λ r. rw (a, r)))
 
       now : (h : Held) → commit_now h ≡ committed_tuple false h ∷ []
-      now h = unfold commit_now committed_tuple if◌then◌else◌ in refl
+      now h = unfold commit_now committed_tuple if'◌then◌else◌ in refl
 
       frozen : p.frozen ≡ true → committed_on j p ≡ set p.tuples j (committed_tuple p.frozen (get_or p.tuples j d))
-      frozen h = unfold committed_on if◌then◌else◌ in ap both h ∙ edit_one pend_commit d (committed_tuple true (get_or p.tuples j d)) p.tuples j (later (get_or p.tuples j d))
+      frozen h = unfold committed_on if'◌then◌else◌ in ap both h ∙ edit_one pend_commit d (committed_tuple true (get_or p.tuples j d)) p.tuples j (later (get_or p.tuples j d))
           ∙ ap (λ b. set p.tuples j (committed_tuple b (get_or p.tuples j d))) (sym h)
 
       thawed : p.frozen ≡ false → committed_on j p ≡ set p.tuples j (committed_tuple p.frozen (get_or p.tuples j d))
-      thawed h = unfold committed_on if◌then◌else◌ in ap both h ∙ edit_one commit_now d (committed_tuple false (get_or p.tuples j d)) p.tuples j (now (get_or p.tuples j d))
+      thawed h = unfold committed_on if'◌then◌else◌ in ap both h ∙ edit_one commit_now d (committed_tuple false (get_or p.tuples j d)) p.tuples j (now (get_or p.tuples j d))
           ∙ ap (λ b. set p.tuples j (committed_tuple b (get_or p.tuples j d))) (sym h)
 
 -- ---- one tuple among all
@@ -208,13 +208,13 @@ last_stays ps i k j p d o f a l =
     row_by_page remove_row_on ps i k j p o none ∙ on_same (remove_row_on j) ps k p o.page (λ r qs. stays r qs) none
   where
     stays : (r : Option Page) (qs : List Page) → remove_row_on j r p qs ≡ list_of r ++ p ∷ qs
-    stays r qs = unfold remove_row_on if◌then◌else◌ with_tuples in
-        ap (λ b. if b then list_of r ++ with_tuples p (pend_remove_at j p.tuples) ∷ qs
+    stays r qs = unfold remove_row_on if'◌then◌else◌ with_tuples in
+        ap (λ b. if' b then list_of r ++ with_tuples p (pend_remove_at j p.tuples) ∷ qs
         else settle (fresh p.table (edit_at remove_now j p.tuples) ∷ []) r (fresh p.table (edit_at remove_now j p.tuples)) qs) f
         ∙ ap (λ hs. list_of r ++ with_tuples p hs ∷ qs) (taken_last j p.tuples d o.inside a l)
 
 removing_kept : (h : Held) → is_removing h.pending ≡ true → pend_commit h ≡ h ∷ []
-unfolding pend_commit if◌then◌else◌
+unfolding pend_commit if'◌then◌else◌
 removing_kept h r = rw (not_adding h.pending r, r)
   where
     not_adding : (w : Pending) → is_removing w ≡ true → is_adding w ≡ false
@@ -231,6 +231,6 @@ removed_stays ps i k j p d o f a = row_by_page commit_row_on ps i k j p o none �
     same = edit_one pend_commit d (get_or p.tuples j d) p.tuples j (removing_kept (get_or p.tuples j d) a) ∙ set-get_or p.tuples j d
 
     stays : (r : Option Page) (qs : List Page) → commit_row_on j r p qs ≡ list_of r ++ p ∷ qs
-    stays r qs = unfold commit_row_on committed_at if◌then◌else◌ with_tuples in
-        ap (λ b. list_of r ++ (if b then with_tuples p (edit_at pend_commit j p.tuples) else fresh p.table (edit_at commit_now j p.tuples)) ∷ qs) f
+    stays r qs = unfold commit_row_on committed_at if'◌then◌else◌ with_tuples in
+        ap (λ b. list_of r ++ (if' b then with_tuples p (edit_at pend_commit j p.tuples) else fresh p.table (edit_at commit_now j p.tuples)) ∷ qs) f
         ∙ ap (λ hs. list_of r ++ with_tuples p hs ∷ qs) same

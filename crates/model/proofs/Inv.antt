@@ -1,6 +1,6 @@
 -- What holds of the view, the store and its base at any moment between two block stores.
 use Rattle.basics.proofs.Kit.{◌≡◌, refl, Bool, true, false, ◌&&◌, not, List, [], ◌∷◌, ◌++◌, map, ℕ, suc, ◌≤◌, ◌<◌, eqb, ltb, length, arith}
-use Rattle.basics.specs.Basics.{is_empty, if◌then◌else◌, is_in, any}
+use Rattle.basics.specs.Basics.{is_empty, if'◌then◌else◌, is_in, any}
 use Rattle.basics.proofs.Facts.{lie, by, AllOf}
 use Rattle.block_forms.specs.Block.{page, Block}
 use Rattle.block_forms.specs.Limits.{most_number}
@@ -84,7 +84,7 @@ named_self used [] = tt
 named_self used (e ∷ es) = (λ h. refl, λ z h. absurd (omega arith), named_self used es)
 
 pub named_fill : (used : ℕ → Bool) (b : ℕ) (es cs : List ℕ) → used b ≡ false → Named used es cs → Named used (fill b es) cs
-unfolding fill if◌then◌else◌
+unfolding fill if'◌then◌else◌
 named_fill used b [] [] u n = tt
 named_fill used b [] (c ∷ cs) u n = n
 named_fill used b (e ∷ es) [] u n = absurd n

@@ -1,7 +1,7 @@
 -- Every call keeps the invariant.
 use Rattle.basics.proofs.Kit.{◌≡◌, refl, sym, ap, ◌∙◌, subst, Bool, true, false, none, List, [], ◌∷◌, ◌++◌, map, ℕ, suc, ◌≤◌, ◌<◌, ltb, length, not, eqb}
 use Rattle.basics.proofs.Kit.{length-append, length-map, arith}
-use Rattle.basics.specs.Basics.{keep, if◌then◌else◌, how_many, any, first, is_empty}
+use Rattle.basics.specs.Basics.{keep, if'◌then◌else◌, how_many, any, first, is_empty}
 use Rattle.basics.proofs.Facts.{AllOf, by, by-option}
 use Rattle.block_forms.specs.Tuple.{Owner, committed, tentative, Tuple, size, owner_size, is_tentative}
 use Rattle.block_forms.specs.Limits.{most_record}
@@ -174,7 +174,7 @@ nothing_pending (x ∷ xs) a = rw (a.0.1, any) (nothing_pending xs a.1)
 
 -- no page is frozen
 pub all_free : (ps : List Page) → images ps ≡ [] → AllOf (λ p. p.frozen ≡ false) ps
-unfolding images if◌then◌else◌
+unfolding images if'◌then◌else◌
 all_free [] e = tt
 all_free (p ∷ ps) e = by p.frozen (λ h. let z : ◌≡◌ {A = ℕ} 0 1 = clash (rw h at e) in absurd (omega arith)) (λ h. (h, all_free ps (rw h at e)))
   where
@@ -241,15 +241,15 @@ header_valid n es ds s f v = record {
 }
 
 pub step_valid : (s : Store) → Valid s → Valid (step_at s.checkpoint s).store
-unfolding step_at step_of gives if◌then◌else◌
+unfolding step_at step_of gives if'◌then◌else◌
 step_valid s v = go s.checkpoint
   where
     go : (c : Checkpoint) → Valid (step_at c s).store
     go idle = v
     go (running n es ds) =
         by-option (first is_frozen s.pages)
-        (λ f. rw (f, step_of) (by (ltb (length ds) (directories_for (length es))) (λ k. rw (k, if◌then◌else◌) (directory_valid n es ds s v))
-        (λ k. rw (k, if◌then◌else◌) (header_valid n es ds s f v))))
+        (λ f. rw (f, step_of) (by (ltb (length ds) (directories_for (length es))) (λ k. rw (k, if'◌then◌else◌) (directory_valid n es ds s v))
+        (λ k. rw (k, if'◌then◌else◌) (header_valid n es ds s f v))))
         (λ p f. rw (f, step_of) (page_valid n es ds p s v))
 
 -- ---- all calls

@@ -1,6 +1,6 @@
 -- The header that is recovered after a cut: the one of the start, or that of the checkpoint whose header landed last.
 use Rattle.basics.proofs.Kit.{◌≡◌, sym, ap, ◌∙◌, subst, true, List, [], ℕ, suc, eqb}
-use Rattle.basics.specs.Basics.{if◌then◌else◌}
+use Rattle.basics.specs.Basics.{if'◌then◌else◌}
 use Rattle.basics.proofs.Facts.{by, AllOf}
 use Rattle.basics.proofs.Elements.{all_two, some_eq}
 use Rattle.block_forms.specs.Block.{Block, header, as_header}
@@ -30,7 +30,7 @@ module _ (R : ℕ → ℕ → List Call → Type 0) where
 
   cut_heads : {v : View} {base : List Call} {ws : List Logged} {v' : View} {base' : List Call} → CutV v base ws v' base' → Heads (v 0) base
       → AllOf Landing ws → Heads (v' 0) base'
-  unfolding put is_header landed if◌then◌else◌
+  unfolding put is_header landed if'◌then◌else◌
   cut_heads stop a b = a
   cut_heads (torn h x) a b = rw h a
   cut_heads (whole {w = w} c) a b = cut_heads c (by (eqb w.write.at 0) (λ h. rw h (b.0 h)) (λ h. rw h a)) b.1

@@ -2,7 +2,7 @@
 use Rattle.block_forms.specs.Limits.{block_size}
 use Rattle.basics.proofs.Kit.{◌≡◌, refl, sym, ap, ◌∙◌, subst, true, false, some, none, Option, List, [], ◌∷◌, ◌++◌, map, ℕ, suc, ◌+◌, ◌*◌, ◌≤◌, ◌<◌, zero, ltb, length, length-append}
 use Rattle.basics.proofs.Kit.{length-map, arith, min-eq_left}
-use Rattle.basics.specs.Basics.{if◌then◌else◌, all, sum, how_many, first, keep, is_empty, is_in}
+use Rattle.basics.specs.Basics.{if'◌then◌else◌, all, sum, how_many, first, keep, is_empty, is_in}
 use Rattle.basics.proofs.Facts.{by, lie, AllOf}
 use Rattle.image_rows.specs.Rows.{is_own}
 use Rattle.image.specs.Stages.{directories_for}
@@ -61,7 +61,7 @@ abbrev Stepped : Store → Outcome → Type 0
 Stepped s o = (length o.writes ≡ 1) × (left s ≡ suc (left o.store)) × (o.answer ≡ count (left o.store))
 
 step_less : (n : ℕ) (es ds : List ℕ) (s : Store) → s.checkpoint ≡ running n es ds → (o : Option Page) → first is_frozen s.pages ≡ o → Stepped s (step_of o n es ds s)
-unfolding step_of store_page store_directory store_header made with_progress if◌then◌else◌ left left_of
+unfolding step_of store_page store_directory store_header made with_progress if'◌then◌else◌ left left_of
 step_less n es ds s e (some p) f =
     let i = allocate s in
     let a = many_frozen s.pages in
@@ -95,7 +95,7 @@ step_size s = step_frame (λ z. z.blocks ≡ s.blocks) s refl (λ l ps u b c. re
 
 -- a step on an image of the store's length
 pub step_at_lem : (len : ℕ) (s : Store) → len ≡ block_size * s.blocks → step_call len s ≡ step_at s.checkpoint s
-unfolding step_call unless bad_image if◌then◌else◌
+unfolding step_call unless bad_image if'◌then◌else◌
 step_at_lem len s e = rw (e, eqb_self (block_size * s.blocks))
 
 in_turn_steps : (len k : ℕ) (s : Store) → len ≡ block_size * s.blocks
@@ -145,7 +145,7 @@ Kept s o = (o.store ≡ s) × (o.writes ≡ [])
 -- of a call that is not a transaction's: accepted, it may change anything
 kept_unless : (ts : List Test) (s : Store) (o : Outcome) → (accepted o.answer ≡ false → Kept s o) → accepted (unless ts s o).answer ≡ false
     → Kept s (unless ts s o)
-unfolding unless if◌then◌else◌ gives
+unfolding unless if'◌then◌else◌ gives
 kept_unless [] s o f h = f h
 kept_unless ((n when b) ∷ ts) s o f h = by b (λ k. rw k (refl, refl)) (λ k. rw k (kept_unless ts s o f (rw k at h)))
 

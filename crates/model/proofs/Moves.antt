@@ -1,7 +1,7 @@
 -- Every rule for tuples is made of moves: a fresh page comes, a page that is not frozen goes, a frozen page gets other tuples and shows
 -- the same. So a relation between the pages before and after that each move keeps is kept by every rule.
 use Rattle.basics.proofs.Kit.{◌≡◌, true, false, some, none, Option, List, [], ◌∷◌, ◌++◌, append-nil, map, sym, subst, ℕ, ◌-◌, eqb, ltb, length}
-use Rattle.basics.specs.Basics.{if◌then◌else◌}
+use Rattle.basics.specs.Basics.{if'◌then◌else◌}
 use Rattle.basics.proofs.Facts.{by, never, by-option}
 use Rattle.block_forms.specs.Tuple.{Tuple}
 use Rattle.model.specs.State.{Page, Held}
@@ -19,29 +19,29 @@ still_frozen p ts = record { table = p.table; block = p.block; frozen = true; tu
 
 module _ (p : Page) (h : p.frozen ≡ true) where
   grown_frozen : (ts : List Held) → grown p ts ≡ still_frozen p ts ∷ []
-  unfolding grown with_tuples still_frozen if◌then◌else◌
+  unfolding grown with_tuples still_frozen if'◌then◌else◌
   grown_frozen ts = rw h
 
   removed_frozen : (j : ℕ) (o : Option Page) (ps : List Page) → remove_row_on j o p ps ≡ list_of o ++ still_frozen p (pend_remove_at j p.tuples) ∷ ps
-  unfolding remove_row_on with_tuples still_frozen if◌then◌else◌
+  unfolding remove_row_on with_tuples still_frozen if'◌then◌else◌
   removed_frozen j o ps = rw h
 
   committed_frozen : (j : ℕ) (o : Option Page) (ps : List Page) → commit_row_on j o p ps ≡ list_of o ++ still_frozen p (edit_at pend_commit j p.tuples) ∷ ps
-  unfolding commit_row_on committed_at with_tuples still_frozen if◌then◌else◌
+  unfolding commit_row_on committed_at with_tuples still_frozen if'◌then◌else◌
   committed_frozen j o ps = rw h
 
 module _ (p : Page) (h : p.frozen ≡ false) where
   grown_other : (ts : List Held) → grown p ts ≡ map (fresh p.table) (split_once ts)
-  unfolding grown if◌then◌else◌
+  unfolding grown if'◌then◌else◌
   grown_other ts = rw h
 
   removed_other : (j : ℕ) (o : Option Page) (ps : List Page)
       → remove_row_on j o p ps ≡ settle (fresh p.table (edit_at remove_now j p.tuples) ∷ []) o (fresh p.table (edit_at remove_now j p.tuples)) ps
-  unfolding remove_row_on if◌then◌else◌
+  unfolding remove_row_on if'◌then◌else◌
   removed_other j o ps = rw h
 
   committed_other : (j : ℕ) (o : Option Page) (ps : List Page) → commit_row_on j o p ps ≡ list_of o ++ fresh p.table (edit_at commit_now j p.tuples) ∷ ps
-  unfolding commit_row_on committed_at if◌then◌else◌
+  unfolding commit_row_on committed_at if'◌then◌else◌
   committed_other j o ps = rw h
 
 -- ---- moves
@@ -86,7 +86,7 @@ module _ (R : List Page → List Page → Type 0) (m : Moves R) where
       (λ ws n k. subst (R (p ∷ ps)) k (m.left (p ∷ []) ps ws (moves_place_after t x ps ws n)))
 
   moves_place_front : (t : ℕ) (x : Tuple) (ps : List Page) → R ps (place_front t x ps)
-  unfolding place_front if◌then◌else◌ shown
+  unfolding place_front if'◌then◌else◌ shown
   moves_place_front t x [] = m.comes t _
   moves_place_front t x (p ∷ ps) =
       by (ltb p.table t) (λ h. rw h (m.left (p ∷ []) ps _ (moves_place_front t x ps)))

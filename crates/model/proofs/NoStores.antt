@@ -1,7 +1,7 @@
 -- Calls that make no store and touch no checkpoint: they change the next number, the pages and the open transactions only, and
 -- not what the frozen pages show. And what every call leaves.
 use Rattle.basics.proofs.Kit.{◌≡◌, refl, sym, ap, ◌∙◌, Bool, true, false, List, [], ℕ, suc, ◌≤◌, zero, min, ltb, length, arith}
-use Rattle.basics.specs.Basics.{if◌then◌else◌, first}
+use Rattle.basics.specs.Basics.{if'◌then◌else◌, first}
 use Rattle.basics.proofs.Facts.{by, lie, by-option}
 use Rattle.image.specs.Stages.{directories_for}
 use Rattle.model.specs.State.{Store, Outcome, Page, Active, Answer, refused, done, Checkpoint, idle, running}
@@ -74,14 +74,14 @@ module _ (s : Store) where
 
 pub step_frame : (P : Store → Type 0) (s : Store) → P s → ((l : ℕ) (ps : List Page) (u : ℕ → Bool) (b : ℕ) (c : Checkpoint) → P (with_progress s l ps u b c))
     → P (step_at s.checkpoint s).store
-unfolding step_at step_of gives if◌then◌else◌ store_page store_directory store_header made
+unfolding step_at step_of gives if'◌then◌else◌ store_page store_directory store_header made
 step_frame P s p f = go s.checkpoint
   where
     go : (c : Checkpoint) → P (step_at c s).store
     go idle = p
     go (running n es ds) =
         by-option (first is_frozen s.pages)
-        (λ e. rw (e, step_of) (by (ltb (length ds) (directories_for (length es))) (λ k. rw (k, if◌then◌else◌) (f _ _ _ _ _)) (λ k. rw (k, if◌then◌else◌) (f _ _ _ _ _))))
+        (λ e. rw (e, step_of) (by (ltb (length ds) (directories_for (length es))) (λ k. rw (k, if'◌then◌else◌) (f _ _ _ _ _)) (λ k. rw (k, if'◌then◌else◌) (f _ _ _ _ _))))
         (λ q e. rw (e, step_of) (f _ _ _ _ _))
 
 -- what every step keeps is kept by step and run

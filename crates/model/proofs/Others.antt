@@ -1,7 +1,7 @@
 -- An operation at a row leaves all other rows, on any pages.
 use Rattle.basics.proofs.Kit.{◌≡◌, refl, sym, ap, ◌∙◌, ap₂, List, [], ◌∷◌, ◌++◌, append_assoc, ℕ, suc, ◌+◌, ◌≤◌, ◌<◌, zero, ◌-◌, ltb, length, take, drop, length-append, length-take}
 use Rattle.basics.proofs.Kit.{length-drop, take-append-drop, length-map, take_at, drop-drop, take-append-add, take-append-le, drop-append-add, drop-append-le, drop_at, arith}
-use Rattle.basics.specs.Basics.{if◌then◌else◌, is_empty}
+use Rattle.basics.specs.Basics.{if'◌then◌else◌, is_empty}
 use Rattle.basics.proofs.Facts.{by}
 use Rattle.model.specs.State.{Held, Page}
 use Rattle.model.specs.Rules.{remove_now, pend_remove, commit_now, pend_commit, is_adding, is_removing}
@@ -87,11 +87,11 @@ only_at E f i (p ∷ ps) =
     (rw l (only_at E f (i - length p.tuples) ps))))
 
 later_few : (h : Held) → length (pend_remove h) ≤ 1
-unfolding pend_remove if◌then◌else◌
+unfolding pend_remove if'◌then◌else◌
 later_few h = by (is_adding h.pending) (λ k. rw k (omega arith)) (λ k. rw k (omega arith))
 
 pend_commit_few : (h : Held) → length (pend_commit h) ≤ 1
-unfolding pend_commit commit_now if◌then◌else◌
+unfolding pend_commit commit_now if'◌then◌else◌
 pend_commit_few h = by (is_adding h.pending) (λ k. rw k (omega arith))
     (λ k. by (is_removing h.pending) (λ m. rw (k, m) (omega arith)) (λ m. rw (k, m) (omega arith)))
 
@@ -104,14 +104,14 @@ unfolding remove_now
 removed_few h = omega arith
 
 removed_only : (j : ℕ) (p : Page) → j < length p.tuples → OnlyRow j (with_table p.table p.tuples) (with_table p.table (removed_on j p))
-unfolding removed_on pend_remove_at if◌then◌else◌
+unfolding removed_on pend_remove_at if'◌then◌else◌
 removed_only j p l =
     by p.frozen
     (λ h. by (is_empty (edit_at pend_remove j p.tuples)) (λ k. rw (h, k) (only_self j _)) (λ k. rw (h, k) (edit_only pend_remove later_few p.table j p.tuples l)))
     (λ h. rw h (edit_only remove_now removed_few p.table j p.tuples l))
 
 committed_only : (j : ℕ) (p : Page) → j < length p.tuples → OnlyRow j (with_table p.table p.tuples) (with_table p.table (committed_on j p))
-unfolding committed_on if◌then◌else◌
+unfolding committed_on if'◌then◌else◌
 committed_only j p l =
     by p.frozen (λ h. rw h (edit_only pend_commit pend_commit_few p.table j p.tuples l)) (λ h. rw h (edit_only commit_now kept_few p.table j p.tuples l))
 

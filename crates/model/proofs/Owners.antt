@@ -1,7 +1,7 @@
 -- The transactions of the tentative rows.
 use Rattle.block_forms.specs.Limits.{most_statement}
 use Rattle.basics.proofs.Kit.{◌≡◌, refl, sym, ap, ◌∙◌, true, false, List, [], ◌∷◌, ◌++◌, map, ℕ, suc, min, eqb, length}
-use Rattle.basics.specs.Basics.{is_in, if◌then◌else◌, any, keep, how_many}
+use Rattle.basics.specs.Basics.{is_in, if'◌then◌else◌, any, keep, how_many}
 use Rattle.basics.proofs.Facts.{by, lie}
 use Rattle.image_rows.specs.Rows.{Row, is_own}
 use Rattle.model.specs.State.{Active}
@@ -27,12 +27,12 @@ numbers_append [] o = refl
 numbers_append (p ∷ os) o = ap (λ z. p.transaction ∷ z) (numbers_append os o)
 
 pub numbers_write : (tx : ℕ) (os : List Active) → open_numbers (with_write tx os) ≡ open_numbers os
-unfolding open_numbers with_write one_more if◌then◌else◌
+unfolding open_numbers with_write one_more if'◌then◌else◌
 numbers_write tx [] = refl
 numbers_write tx (o ∷ os) = by (is_for tx o) (λ h. rw h) (λ h. rw h (ap (λ z. o.transaction ∷ z) (numbers_write tx os)))
 
 pub numbers_without : (tx : ℕ) (os : List Active) → open_numbers (without tx os) ≡ others tx (open_numbers os)
-unfolding open_numbers without others keep is_for if◌then◌else◌
+unfolding open_numbers without others keep is_for if'◌then◌else◌
 numbers_without tx [] = refl
 numbers_without tx (o ∷ os) = by (eqb o.transaction tx) (λ h. rw h (numbers_without tx os)) (λ h. rw h (ap (λ z. o.transaction ∷ z) (numbers_without tx os)))
 
@@ -49,27 +49,27 @@ numbers_reopened rs (t ∷ ts) = ap (λ z. t ∷ z) (numbers_reopened rs ts)
 -- ---- their counts
 
 pub count_append : (tx u : ℕ) (os : List Active) → is_in tx (open_numbers os) ≡ true → written_by tx (os ++ record { transaction = u; written = 0 } ∷ []) ≡ written_by tx os
-unfolding open_numbers written_by is_for if◌then◌else◌
+unfolding open_numbers written_by is_for if'◌then◌else◌
 count_append tx u [] h = lie (unfold is_in any in h)
 count_append tx u (o ∷ os) h =
     by (eqb o.transaction tx) (λ k. rw k) (λ k. rw k (count_append tx u os (sym (in_past tx o.transaction (open_numbers os) (eqb_sym o.transaction tx k)) ∙ h)))
 
 pub count_new : (tx u : ℕ) (os : List Active) → is_in tx (open_numbers os) ≡ false → written_by tx (os ++ record { transaction = u; written = 0 } ∷ []) ≡ 0
-unfolding open_numbers written_by is_for if◌then◌else◌
+unfolding open_numbers written_by is_for if'◌then◌else◌
 count_new tx u [] h = by (eqb u tx) (λ k. rw k) (λ k. rw k)
 count_new tx u (o ∷ os) h =
     let n = not_in tx o.transaction (open_numbers os) h in
     rw (eqb_sym tx o.transaction n.0) (count_new tx u os n.1)
 
 pub count_write : (tx : ℕ) (os : List Active) → is_in tx (open_numbers os) ≡ true → written_by tx (with_write tx os) ≡ min (suc (written_by tx os)) most_statement
-unfolding open_numbers written_by with_write one_more is_for if◌then◌else◌
+unfolding open_numbers written_by with_write one_more is_for if'◌then◌else◌
 count_write tx [] h = lie (unfold is_in any in h)
 count_write tx (o ∷ os) h =
     by (eqb o.transaction tx) (λ k. rw (k, k))
     (λ k. rw (k, k) (count_write tx os (sym (in_past tx o.transaction (open_numbers os) (eqb_sym o.transaction tx k)) ∙ h)))
 
 pub count_other : (tx u : ℕ) (os : List Active) → eqb tx u ≡ false → written_by u (with_write tx os) ≡ written_by u os
-unfolding written_by with_write one_more is_for if◌then◌else◌
+unfolding written_by with_write one_more is_for if'◌then◌else◌
 count_other tx u [] d = refl
 count_other tx u (o ∷ os) d =
     by (eqb o.transaction tx)
@@ -77,7 +77,7 @@ count_other tx u (o ∷ os) d =
     (λ k. by (eqb o.transaction u) (λ e. rw (k, e)) (λ e. rw (k, e) (count_other tx u os d)))
 
 pub count_without : (tx u : ℕ) (os : List Active) → eqb tx u ≡ false → written_by u (without tx os) ≡ written_by u os
-unfolding written_by without keep is_for if◌then◌else◌
+unfolding written_by without keep is_for if'◌then◌else◌
 count_without tx u [] d = refl
 count_without tx u (o ∷ os) d =
     by (eqb o.transaction tx)
@@ -85,7 +85,7 @@ count_without tx u (o ∷ os) d =
     (λ k. by (eqb o.transaction u) (λ e. rw (k, e)) (λ e. rw (k, e) (count_without tx u os d)))
 
 pub count_reopened : (rs : List Row) (tx : ℕ) (ts : List ℕ) → is_in tx ts ≡ true → written_by tx (map (reopened rs) ts) ≡ how_many (is_own tx) rs
-unfolding written_by reopened is_for if◌then◌else◌
+unfolding written_by reopened is_for if'◌then◌else◌
 count_reopened rs tx [] h = lie (unfold is_in any in h)
 count_reopened rs tx (t ∷ ts) h =
     by (eqb t tx) (λ k. rw k (ap (λ z. how_many (is_own z) rs) (eqb-true t tx k))) (λ k. rw k (count_reopened rs tx ts (sym (in_past tx t ts (eqb_sym t tx k)) ∙ h)))

@@ -1,6 +1,6 @@
 -- A property of pages that every fresh page has, and a frozen page whatever its tuples, is kept by the rules.
 use Rattle.basics.proofs.Kit.{◌≡◌, sym, subst, Bool, true, false, some, none, Option, List, [], ◌∷◌, map, ℕ}
-use Rattle.basics.specs.Basics.{if◌then◌else◌, first, any}
+use Rattle.basics.specs.Basics.{if'◌then◌else◌, first, any}
 use Rattle.basics.proofs.Facts.{AllOf, by, never}
 use Rattle.model.specs.State.{Page, Held}
 use Rattle.model.specs.Rules.{fresh, list_of, around, thaw}
@@ -34,7 +34,7 @@ module _ (Q : Page → Type 0) (Q-fresh : (t : ℕ) (ts : List Held) → Q (fres
   pub all_thaw : (b : ℕ) (p : Page) (ps : List Page) → first is_frozen ps ≡ some p
       → (any (λ x. is_pending x.pending) p.tuples ≡ false → Q (record { table = p.table; block = b; frozen = false; tuples = p.tuples }))
       → AllOf Q ps → AllOf Q (thaw b ps)
-  unfolding thaw thaw_on if◌then◌else◌ list_of
+  unfolding thaw thaw_on if'◌then◌else◌ list_of
   all_thaw b p ps e c a =
       all_around_first is_frozen (thaw_on b) p
       (λ o qs l g. by (any (λ x. is_pending x.pending) p.tuples)

@@ -1,7 +1,7 @@
 -- What operations by place do to all tuples held; and operations by number, which are those at the number's place.
 use Rattle.basics.proofs.Kit.{◌≡◌, refl, sym, ap, ◌∙◌, ⊎_elim, ◌⊎◌, inl, inr, true, false, some, none, Option, List, [], ◌∷◌, ◌++◌, append_assoc, append-nil, map, ℕ, suc, ◌+◌, ◌≤◌, ◌<◌}
 use Rattle.basics.proofs.Kit.{zero, ◌-◌, ltb, length, length-map, arith, subst, zero-add}
-use Rattle.basics.specs.Basics.{if◌then◌else◌, is_empty}
+use Rattle.basics.specs.Basics.{if'◌then◌else◌, is_empty}
 use Rattle.basics.proofs.Lists.{map_append}
 use Rattle.basics.proofs.Facts.{by, AllOf}
 use Rattle.model.specs.State.{Held, Page}
@@ -123,22 +123,22 @@ module _ (E : ℕ → Page → List Held) where
 
 -- the tuples of a page after the removal of tuple j
 unfoldable pub removed_on : ℕ → Page → List Held
-removed_on j p = if p.frozen then pend_remove_at j p.tuples else edit_at remove_now j p.tuples
+removed_on j p = if' p.frozen then pend_remove_at j p.tuples else edit_at remove_now j p.tuples
 
 -- after its commit
 unfoldable pub committed_on : ℕ → Page → List Held
-committed_on j p = if p.frozen then edit_at pend_commit j p.tuples else edit_at commit_now j p.tuples
+committed_on j p = if' p.frozen then edit_at pend_commit j p.tuples else edit_at commit_now j p.tuples
 
 tagged_remove_row_on : (j : ℕ) (o : Option Page) (p : Page) (ps : List Page)
     → tagged (remove_row_on j o p ps) ≡ tagged (list_of o) ++ (with_table p.table (removed_on j p) ++ tagged ps)
-unfolding remove_row_on removed_on if◌then◌else◌ with_tuples fresh
+unfolding remove_row_on removed_on if'◌then◌else◌ with_tuples fresh
 tagged_remove_row_on j o p ps =
     let q = fresh p.table (edit_at remove_now j p.tuples) in
     by p.frozen (λ h. rw (h, tagged_page o _ ps)) (λ h. rw (h, tagged_settle (q ∷ []) o q ps (λ m. refl), tagged_page o q ps))
 
 tagged_commit_row_on : (j : ℕ) (o : Option Page) (p : Page) (ps : List Page)
     → tagged (commit_row_on j o p ps) ≡ tagged (list_of o) ++ (with_table p.table (committed_on j p) ++ tagged ps)
-unfolding commit_row_on committed_at committed_on if◌then◌else◌ with_tuples fresh
+unfolding commit_row_on committed_at committed_on if'◌then◌else◌ with_tuples fresh
 tagged_commit_row_on j o p ps = by p.frozen (λ h. rw (h, tagged_page o _ ps)) (λ h. rw (h, tagged_page o _ ps))
 
 -- all tuples after the removal, and after the commit, of row i: for any pages
@@ -151,11 +151,11 @@ unfolding commit_row
 tagged_commit_row i ps = row_entries commit_row_on committed_on tagged_commit_row_on i none ps ∙ (unfold list_of tagged in refl)
 
 later_number : (h : Held) → (numbers_on (pend_remove h) ≡ h.tuple.number ∷ []) ⊎ (pend_remove h ≡ [])
-unfolding pend_remove if◌then◌else◌ with_pending
+unfolding pend_remove if'◌then◌else◌ with_pending
 later_number h = by (is_adding h.pending) (λ k. rw k (inr refl)) (λ k. rw k (inl refl))
 
 removed_less : (j : ℕ) (p : Page) → Less j (numbers_on (removed_on j p)) (numbers_on p.tuples)
-unfolding removed_on pend_remove_at if◌then◌else◌ remove_now
+unfolding removed_on pend_remove_at if'◌then◌else◌ remove_now
 removed_less j p =
     by p.frozen
     (λ h. by (is_empty (edit_at pend_remove j p.tuples)) (λ k. rw (h, k) (inl refl)) (λ k. rw (h, k) (edit_less pend_remove later_number j p.tuples)))
@@ -166,12 +166,12 @@ unfolding commit_now as_committed
 kept_number h = refl
 
 pend_commit_number : (h : Held) → numbers_on (pend_commit h) ≡ h.tuple.number ∷ []
-unfolding pend_commit if◌then◌else◌ with_pending
+unfolding pend_commit if'◌then◌else◌ with_pending
 pend_commit_number h =
     by (is_adding h.pending) (λ k. rw k (kept_number h)) (λ k. by (is_removing h.pending) (λ m. rw (k, m)) (λ m. rw (k, m)))
 
 committed_same : (j : ℕ) (p : Page) → numbers_on (committed_on j p) ≡ numbers_on p.tuples
-unfolding committed_on if◌then◌else◌
+unfolding committed_on if'◌then◌else◌
 committed_same j p = by p.frozen (λ h. rw h (edit_same pend_commit pend_commit_number j p.tuples)) (λ h. rw h (edit_same commit_now kept_number j p.tuples))
 
 pub remove_numbers : (i : ℕ) (ps : List Page) → Less i (numbers (remove_row i ps)) (numbers ps)
@@ -243,13 +243,13 @@ edited_amends : (G : Row → List Row) (n : ℕ) (a b : List Entry) → Edited G
 edited_amends G n a b k = subst (λ z. Amends G n z b) (sym k.is) (edit_amends k.by_edit G k.edits n b)
 
 removed_on_lem : (j : ℕ) (p : Page) → PageOk p → EditedOn away j (removed_on j p) p.tuples
-unfolding removed_on if◌then◌else◌
+unfolding removed_on if'◌then◌else◌
 removed_on_lem j p ok =
     by p.frozen (λ h. record { by_edit = pend_remove; edits = pend_remove_edits; is = rw h (taken_at_is j p.tuples (ok.2 h).1) })
     (λ h. record { by_edit = remove_now; edits = removed_edits; is = rw h })
 
 committed_on_lem : (j : ℕ) (p : Page) → EditedOn kept_row j (committed_on j p) p.tuples
-unfolding committed_on if◌then◌else◌
+unfolding committed_on if'◌then◌else◌
 committed_on_lem j p =
     by p.frozen (λ h. record { by_edit = pend_commit; edits = pend_commit_edits; is = rw h }) (λ h. record { by_edit = commit_now; edits = kept_edits; is = rw h })
 

@@ -1,6 +1,6 @@
 -- Placing a tuple puts its row after all rows whose table and key are not above its own, and before all others.
 use Rattle.basics.proofs.Kit.{◌≡◌, refl, sym, ap, ◌∙◌, subst, false, some, none, List, [], ◌∷◌, ◌++◌, append_assoc, map, ℕ, suc, ◌≤◌, ◌<◌, leb, eqb, ltb, length, arith}
-use Rattle.basics.specs.Basics.{if◌then◌else◌}
+use Rattle.basics.specs.Basics.{if'◌then◌else◌}
 use Rattle.basics.proofs.Facts.{AllOf, lie, never, by, by-option}
 use Rattle.block_forms.specs.Tuple.{Tuple}
 use Rattle.image_rows.specs.Rows.{Row}
@@ -60,7 +60,7 @@ record SlotAfter (t : ℕ) (x : Held) (a b : List Entry) : Type 0 where
 
 after_put : (t : ℕ) (x : Held) (ys zs : List Held) → after x ys ≡ some zs → Pairs Earlier (with_table t ys)
     → SlotAfter t x (with_table t zs) (with_table t ys)
-unfolding after if◌then◌else◌
+unfolding after if'◌then◌else◌
 after_put t x [] zs e s = never e
 after_put t x (y ∷ ys) zs e s =
     by-option (after x ys)
@@ -123,7 +123,7 @@ put_first t x b h = record { low = []; high = b; was = refl; now = refl; below =
 -- ---- pages
 
 entries_grown : (p : Page) (ts : List Held) (ps : List Page) → tagged (grown p ts ++ ps) ≡ with_table p.table ts ++ tagged ps
-unfolding tagged grown with_tuples if◌then◌else◌
+unfolding tagged grown with_tuples if'◌then◌else◌
 entries_grown p ts ps = by p.frozen (λ f. rw f)
     (λ f. rw (f, tagged_append (map (fresh p.table) (split_once ts)), tagged_fresh p.table (split_once ts), once_together))
 
@@ -154,11 +154,11 @@ abbrev Enters : Tuple → Held → Type 0
 Enters x y = (y.tuple ≡ x) × ((t : ℕ) → live_rows ((t, y) ∷ []) ≡ (t, x) ∷ [])
 
 enters_page : (p : Page) (x : Tuple) → Enters x (entering p x)
-unfolding entering live_rows if◌then◌else◌ applied is_removing is_committing
+unfolding entering live_rows if'◌then◌else◌ applied is_removing is_committing
 enters_page p x = (refl, λ t. by p.frozen (λ f. rw f) (λ f. rw f))
 
 enters_without_pending : (x : Tuple) → Enters x (without_pending x)
-unfolding without_pending live_rows if◌then◌else◌ applied is_removing is_committing
+unfolding without_pending live_rows if'◌then◌else◌ applied is_removing is_committing
 enters_without_pending x = (refl, λ t. refl)
 
 -- ---- all pages
@@ -176,7 +176,7 @@ lower_rows t k u [] h = tt
 lower_rows t k u (z ∷ zs) h = ((omega arith, λ v. absurd (omega arith)), lower_rows t k u zs h)
 
 place_after_clear : (t : ℕ) (x : Tuple) (ps : List Page) → place_after t x ps ≡ none → AllOf (Clear t x.key) (tagged ps)
-unfolding place_after tagged if◌then◌else◌ entering
+unfolding place_after tagged if'◌then◌else◌ entering
 place_after_clear t x [] e = tt
 place_after_clear t x (p ∷ ps) e =
     by-option (place_after t x ps)
@@ -219,7 +219,7 @@ module _ (t : ℕ) (x : Tuple) where
 
   place_after_put : (ps qs : List Page) → place_after t x ps ≡ some qs → AllOf PageOk ps → Pairs Earlier (tagged ps)
       → PlacedAfter (tagged qs) (tagged ps)
-  unfolding place_after if◌then◌else◌
+  unfolding place_after if'◌then◌else◌
   place_after_put [] qs e o s = never e
   place_after_put (p ∷ ps) qs e o s =
       after_cases t x p ps qs e (λ ts n h m k. subst (λ q. PlacedAfter (tagged q) (tagged (p ∷ ps))) k (here_put p ts ps (eqb-true p.table t h) m o.0 s (place_after_clear t x ps n)))
@@ -272,7 +272,7 @@ module _ (t : ℕ) (x : Tuple) where
 
   front_step : (p : Page) (ps : List Page) → AllOf (Clear t x.key) (tagged (p ∷ ps)) → PageOk p → Pairs Earlier (tagged (p ∷ ps))
       → Placed (tagged (place_front t x ps)) (tagged ps) → Placed (tagged (place_front t x (p ∷ ps))) (tagged (p ∷ ps))
-  unfolding place_front if◌then◌else◌
+  unfolding place_front if'◌then◌else◌
   front_step p ps c o s r =
       let up = tables_up p ps o s in
       by (ltb p.table t)

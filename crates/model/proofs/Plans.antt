@@ -1,7 +1,7 @@
 -- The plans by place are the plans by number, and their places rise.
 use Rattle.basics.proofs.Kit.{◌≡◌, refl, sym, ap, ◌∙◌, subst, ap₂, ◌≢◌, Bool, true, false, ◌&&◌, not, some, none, Option, Option·map, List, [], ◌∷◌, ◌++◌, append_assoc, map, ℕ, suc, ◌+◌}
 use Rattle.basics.proofs.Kit.{◌≤◌, ◌<◌, zero, eqb, length, get_or, length-append, append_snoc, get_or-append_seam, arith}
-use Rattle.basics.specs.Basics.{if◌then◌else◌, keep, any, last}
+use Rattle.basics.specs.Basics.{if'◌then◌else◌, keep, any, last}
 use Rattle.basics.proofs.Lists.{map_append}
 use Rattle.basics.proofs.Facts.{by, lie, by-option, AllOf}
 use Rattle.block_forms.specs.Tuple.{Tuple}
@@ -37,7 +37,7 @@ module _ {X : Type 0} where
   between_mem k m (there {y} i) b = let r = between_mem (suc y.0) m i b.1 in (omega (arith, b.0, r.0), r.1)
 
   pub between_keep : (f : ℕ × X → Bool) (k m : ℕ) (vs : List (ℕ × X)) → Between k m vs → Between k m (keep f vs)
-  unfolding keep if◌then◌else◌
+  unfolding keep if'◌then◌else◌
   between_keep f k m [] b = b
   between_keep f k m (v ∷ vs) b =
       let r = between_keep f (suc v.0) m vs b.1 in
@@ -48,7 +48,7 @@ module _ {X : Type 0} where
   between_snoc k i (v ∷ vs) x b = (b.0, between_snoc (suc v.0) i vs x b.1)
 
 pub between_live : (k m : ℕ) (xs : List Placed) → Between k m xs → Between k m (live_of xs)
-unfolding live_of if◌then◌else◌
+unfolding live_of if'◌then◌else◌
 between_live k m [] b = b
 between_live k m (x ∷ xs) b =
     let r = between_live (suc x.0) m xs b.1 in
@@ -75,7 +75,7 @@ module _ (n : ℕ) where
 
   rising_newest : (k m : ℕ) (o : Option (ℕ × Row)) (vs : List (ℕ × Row)) (os : List PlaceOp) → m ≤ n → Between k m vs
       → ((x : ℕ × Row) → o ≡ some x → Mem x vs) → Rising n m os → Rising n k (plan_newest o vs ++ os)
-  unfolding plan_newest if◌then◌else◌
+  unfolding plan_newest if'◌then◌else◌
   rising_newest k m none vs os h b f r = rising_lower k m os (between_end k m vs b) r
   rising_newest k m (some x) vs os h b f r =
       let w = between_mem k m (f x refl) b in
@@ -133,7 +133,7 @@ named_placed ms (e ∷ es) =
     )
 
 pub named_live : (ns : List ℕ) (xs : List Placed) → AllOf (λ x. Named ns x.0 (row_of x).1.number) xs → AllOf (λ y. Named ns y.0 y.1.1.number) (live_of xs)
-unfolding live_of if◌then◌else◌
+unfolding live_of if'◌then◌else◌
 named_live ns [] a = tt
 named_live ns (x ∷ xs) a =
     by (is_removing x.1.1.pending) (λ h. rw h (named_live ns xs a.1))
@@ -149,13 +149,13 @@ numbered_removes ns (v ∷ vs) a = ap₂ (λ n os. to_remove n ∷ os) a.0.1 (nu
 
 pub keep_map : (f : ℕ × Row → Bool) (g : Row → Bool) (vs : List (ℕ × Row)) → AllOf (λ y. f y ≡ g y.1) vs
     → map (λ y. y.1) (keep f vs) ≡ keep g (map (λ y. y.1) vs)
-unfolding keep if◌then◌else◌
+unfolding keep if'◌then◌else◌
 keep_map f g [] a = refl
 keep_map f g (v ∷ vs) a =
     by (g v.1) (λ h. rw (a.0, h, keep_map f g vs a.1)) (λ h. rw (a.0, h, keep_map f g vs a.1))
 
 last_map : (tx : ℕ) (vs : List (ℕ × Row)) → last (is_own tx) (map (λ y. y.1) vs) ≡ Option·map (λ y. y.1) (last (own_placed tx) vs)
-unfolding last own_placed if◌then◌else◌
+unfolding last own_placed if'◌then◌else◌
 last_map tx [] = refl
 last_map tx (v ∷ vs) =
     by-option (last (own_placed tx) vs)
@@ -169,7 +169,7 @@ newest (some r) vs = plan_key r vs
 
 numbered_newest : (ns : List ℕ) → Pairs (λ a b. a ≢ b) ns → (o : Option (ℕ × Row)) (vs : List (ℕ × Row)) → AllOf (λ y. Named ns y.0 y.1.1.number) vs
     → ((x : ℕ × Row) → o ≡ some x → Mem x vs) → map (numbered ns) (plan_newest o vs) ≡ newest (Option·map (λ y. y.1) o) (map (λ y. y.1) vs)
-unfolding plan_newest newest plan_key if◌then◌else◌ is_row number numbered
+unfolding plan_newest newest plan_key if'◌then◌else◌ is_row number numbered
 numbered_newest ns d none vs a f = refl
 numbered_newest ns d (some x) vs a f =
     let w = mem_all (λ y. Named ns y.0 y.1.1.number) (f x refl) a in
@@ -212,7 +212,7 @@ module _ (tx : ℕ) (ev : List Row) where
 
 -- a property of the tables and keys of tuples is one of their live rows
 pub rows_all : (P : ℕ → ℕ → Type 0) (xs : List Placed) → AllOf (λ x. P (row_of x).0 (row_of x).1.key) xs → AllOf (λ r. P r.0 r.1.key) (rows_in xs)
-unfolding live_of if◌then◌else◌
+unfolding live_of if'◌then◌else◌
 rows_all P [] a = tt
 rows_all P (x ∷ xs) a =
     by (is_removing x.1.1.pending) (λ h. rw h (rows_all P xs a.1))

@@ -1,6 +1,6 @@
 -- Calls with keys of 32 bits and payloads of bytes keep the fields of every tuple held in range.
 use Rattle.basics.proofs.Kit.{◌≡◌, sym, subst, Bool, true, List, [], ◌∷◌, ◌++◌, ℕ, ◌≤◌, ◌<◌, ltb, length, length-map, arith}
-use Rattle.basics.specs.Basics.{if◌then◌else◌, first}
+use Rattle.basics.specs.Basics.{if'◌then◌else◌, first}
 use Rattle.basics.proofs.Facts.{by, AllOf, by-option}
 use Rattle.block_forms.specs.Limits.{payload_limit, record_space}
 use Rattle.block_forms.specs.Tuple.{Owner, OwnerFits, Fits, AllBytes, Tuple, AllFit, sizes}
@@ -66,14 +66,14 @@ module _ (c : TransactionCall) (s : Store) (v : Valid s) (n : Counted s) (f : Fi
 -- ---- the checkpoint
 
 pub step_fits : (s : Store) → Valid s → Fitting s → Fitting (step_at s.checkpoint s).store
-unfolding step_at step_of gives if◌then◌else◌ store_page store_directory store_header made with_progress
+unfolding step_at step_of gives if'◌then◌else◌ store_page store_directory store_header made with_progress
 step_fits s v f = go s.checkpoint
   where
     go : (c : Checkpoint) → Fitting (step_at c s).store
     go idle = f
     go (running n es ds) =
         by-option (first is_frozen s.pages)
-        (λ e. rw (e, step_of) (by (ltb (length ds) (directories_for (length es))) (λ k. rw (k, if◌then◌else◌) f) (λ k. rw (k, if◌then◌else◌) f)))
+        (λ e. rw (e, step_of) (by (ltb (length ds) (directories_for (length es))) (λ k. rw (k, if'◌then◌else◌) f) (λ k. rw (k, if'◌then◌else◌) f)))
         (λ p e. rw (e, step_of) (sub_fits (thaw_rows (allocate s) s.pages v.pages).0 f))
 
 both_step : (s : Store) → Valid s × Fitting s → Valid (step_at s.checkpoint s).store × Fitting (step_at s.checkpoint s).store
@@ -100,7 +100,7 @@ keeps_fits (runs limit len) s t v h f = (run_keeps (λ z. Valid z × Fitting z) 
 -- ---- what the frozen pages show can be written
 
 shown_fits : (hs : List Held) → AllOf Fits (bare hs) → AllFit (shown hs)
-unfolding shown if◌then◌else◌
+unfolding shown if'◌then◌else◌
 shown_fits [] a = tt
 shown_fits (h ∷ hs) a = by (is_adding h.pending) (λ k. rw k (shown_fits hs a.1)) (λ k. rw k (a.0, shown_fits hs a.1))
 

@@ -1,6 +1,6 @@
 -- Recovery taken apart: what it finds in the header, directory and page blocks, and that it looks at no other block.
 use Rattle.basics.proofs.Kit.{◌≡◌, refl, sym, ap, ◌∙◌, true, some, none, Option, List, [], ◌∷◌, ◌++◌, ℕ, ◌-◌}
-use Rattle.basics.specs.Basics.{if◌then◌else◌, is_in}
+use Rattle.basics.specs.Basics.{if'◌then◌else◌, is_in}
 use Rattle.basics.proofs.Facts.{by, AllOf}
 use Rattle.block_forms.specs.Block.{header, as_header}
 use Rattle.block_forms.specs.Limits.{entries_per_block}
@@ -38,7 +38,7 @@ pages_store h (refuses n) s e = refuses-holds e
 pages_store h (holds ps) s e = (ps, refl, holds_eq e)
 
 pub found : (n : ℕ) (v : View) (s : Store) → recover_view n v ≡ holds s → Found n v s
-unfolding recover_view recover_from header_test if◌then◌else◌
+unfolding recover_view recover_from header_test if'◌then◌else◌
 found n v s e = go (as_header (v 0)) refl e
   where
     go : (x : Option Header) → as_header (v 0) ≡ x → recover_from v (header_test n x) ≡ holds s → Found n v s
@@ -63,7 +63,7 @@ found n v s e = go (as_header (v 0)) refl e
         (λ a. refuses-holds (rw a at e))
 
 pub recovers : (n : ℕ) (v : View) (s : Store) → Found n v s → recover_view n v ≡ holds s
-unfolding recover_view recover_from header_test pages_stage pages_below directory_test tested_entries page_test tested_pages recover_pages if◌then◌else◌
+unfolding recover_view recover_from header_test pages_stage pages_below directory_test tested_entries page_test tested_pages recover_pages if'◌then◌else◌
 recovers n v s f = rw (f.top, f.head_ok, f.listed, f.entries_ok, f.read, f.rows_ok) (ap holds f.store)
 
 -- ---- the blocks named

@@ -1,7 +1,7 @@
 -- When a checkpoint's header has landed, its blocks are read as the store before its begin.
 use Rattle.block_forms.specs.Limits.{block_limit, block_size}
 use Rattle.basics.proofs.Kit.{◌≡◌, sym, ap, ◌∙◌, subst, Bool, true, List, [], ◌∷◌, ◌++◌, map, ℕ, ◌*◌, ◌≤◌, ◌<◌, length}
-use Rattle.basics.specs.Basics.{if◌then◌else◌}
+use Rattle.basics.specs.Basics.{if'◌then◌else◌}
 use Rattle.basics.proofs.Facts.{AllOf}
 use Rattle.block_forms.specs.Block.{header, Block}
 use Rattle.block_forms.specs.declared.Header.{Header}
@@ -28,7 +28,7 @@ use Rattle.model.proofs.Line.{view_after, length_after, started, cut_view}
 -- ---- the first stores whole, the last of them a header's
 
 header_lands : (w : Logged) (base : List Call) → is_header w ≡ true → landed w base ≡ w.before
-unfolding landed if◌then◌else◌
+unfolding landed if'◌then◌else◌
 header_lands w base h = rw h
 
 whole_cut : (img : List ℕ) (base : List Call) (ws : List Logged) (w : Logged) (later : List Logged) → is_header w ≡ true
@@ -50,7 +50,7 @@ top_block n img (v ∷ ws) w e ok h = top_block n (image_with img v) ws w (lengt
 
 reads_found : (n : ℕ) (img : List ℕ) (s : Store) → length img ≡ block_size * n → 2 ≤ n → n ≤ block_limit → (f : Found n (view img) s)
     → read_image img ≡ holds (record { header = f.head; pages = f.pages })
-unfolding read_image after_header with_header header_test pages_stage pages_below directory_test tested_entries page_test tested_pages if◌then◌else◌
+unfolding read_image after_header with_header header_test pages_stage pages_below directory_test tested_entries page_test tested_pages if'◌then◌else◌
 reads_found n img s e lo hi f = rw (stage_is img n e lo hi, f.top, f.head_ok, f.listed, f.entries_ok, f.read, f.rows_ok)
 
 found_content : (n : ℕ) (v : View) (s : Store) (f : Found n v s) → map content_of f.pages ≡ map content s.pages

@@ -1,6 +1,6 @@
 -- Commit and abort on the live rows, in closed form: what becomes of each row.
 use Rattle.basics.proofs.Kit.{◌≡◌, refl, sym, ap, ◌∙◌, subst, ap₂, ◌≢◌, Bool, true, false, ◌&&◌, not, some, none, Option, List, [], ◌∷◌, ◌++◌, append-nil, ℕ, eqb}
-use Rattle.basics.specs.Basics.{if◌then◌else◌, keep, any, last}
+use Rattle.basics.specs.Basics.{if'◌then◌else◌, keep, any, last}
 use Rattle.basics.proofs.Facts.{by, AllOf, and_true, lie, by-option}
 use Rattle.image_rows.specs.Rows.{Row, number, is_at, is_own}
 use Rattle.model.specs.State.{Page}
@@ -24,8 +24,8 @@ gather F (r ∷ rs) = F r ++ gather F rs
 -- what becomes of a row
 unfoldable pub row_after : List Op → Row → List Row
 row_after [] r = r ∷ []
-row_after (to_commit n ∷ os) r = if is_row n r then row_after os (r.0, as_committed r.1) else row_after os r
-row_after (to_remove n ∷ os) r = if is_row n r then [] else row_after os r
+row_after (to_commit n ∷ os) r = if' is_row n r then row_after os (r.0, as_committed r.1) else row_after os r
+row_after (to_remove n ∷ os) r = if' is_row n r then [] else row_after os r
 
 gather_nil : (rs : List Row) → gather (row_after []) rs ≡ rs
 unfolding gather row_after
@@ -33,12 +33,12 @@ gather_nil [] = refl
 gather_nil (r ∷ rs) = ap (λ z. r ∷ z) (gather_nil rs)
 
 gather_removes : (n : ℕ) (os : List Op) (rs : List Row) → gather (row_after os) (amend away n rs) ≡ gather (row_after (to_remove n ∷ os)) rs
-unfolding gather row_after amend away if◌then◌else◌
+unfolding gather row_after amend away if'◌then◌else◌
 gather_removes n os [] = refl
 gather_removes n os (r ∷ rs) = by (is_row n r) (λ h. rw (h, gather_removes n os rs)) (λ h. rw (h, gather_removes n os rs))
 
 gather_commits : (n : ℕ) (os : List Op) (rs : List Row) → gather (row_after os) (amend kept_row n rs) ≡ gather (row_after (to_commit n ∷ os)) rs
-unfolding gather row_after amend kept_row if◌then◌else◌
+unfolding gather row_after amend kept_row if'◌then◌else◌
 gather_commits n os [] = refl
 gather_commits n os (r ∷ rs) = by (is_row n r) (λ h. rw (h, gather_commits n os rs)) (λ h. rw (h, gather_commits n os rs))
 
@@ -86,7 +86,7 @@ abbrev Off : Row → Op → Type 0
 Off r o = is_row (op_number o) r ≡ false
 
 off_append : (a b : List Op) (r : Row) → AllOf (Off r) a → row_after (a ++ b) r ≡ row_after b r
-unfolding row_after op_number if◌then◌else◌
+unfolding row_after op_number if'◌then◌else◌
 off_append [] b r h = refl
 off_append (to_commit n ∷ os) b r h = rw h.0 (off_append os b r h.1)
 off_append (to_remove n ∷ os) b r h = rw h.0 (off_append os b r h.1)
@@ -105,7 +105,7 @@ unfolding is_row number
 row_self r = eqb_self r.1.number
 
 hit_remove_all : {r : Row} {ys : List Row} (os : List Op) → Mem r ys → row_after (remove_all ys ++ os) r ≡ []
-unfolding row_after remove_all if◌then◌else◌
+unfolding row_after remove_all if'◌then◌else◌
 hit_remove_all {r} os here = rw (row_self r)
 hit_remove_all {r} os (there {y} m) = by (is_row (number y) r) (λ h. rw h) (λ h. rw h (hit_remove_all os m))
 
@@ -149,12 +149,12 @@ row_false n r h = by (is_row n r) (λ k. absurd (h (row_number n r k))) (λ k. k
 -- of the rows at one key: the newest own one, if there is one, and a row
 unfoldable pub by_newest : Option Row → Row → List Row
 by_newest none r = r ∷ []
-by_newest (some x) r = if x.1.mark then [] else if is_row (number x) r then kept_row x else []
+by_newest (some x) r = if' x.1.mark then [] else if' is_row (number x) r then kept_row x else []
 
 module _ (tx : ℕ) (all : List Row) (d : Pairs Differ all) where
   -- of x, what is planned for its key does not touch rows of other keys
   plan_key_off : (x r : Row) → Mem x all → Mem r all → With x r ≡ false → AllOf (Off r) (plan_key x (keep (With x) all))
-  unfolding plan_key if◌then◌else◌ op_number number
+  unfolding plan_key if'◌then◌else◌ op_number number
   plan_key_off x r mx mr h =
       let only = mem_only mr d in
       let miss : (y : Row) → Mem y all → With x y ≡ true → is_row (number y) r ≡ false = λ y my k. row_false (number y) r
@@ -172,7 +172,7 @@ module _ (tx : ℕ) (all : List Row) (d : Pairs Differ all) where
   Within xs = AllOf (λ x. Mem x all) xs
 
   plan_off : (r : Row) → Mem r all → (xs : List Row) → Within xs → any (own_at tx r.0 r.1.key) xs ≡ false → AllOf (Off r) (plan_rows tx all xs)
-  unfolding plan_rows any if◌then◌else◌ own_at
+  unfolding plan_rows any if'◌then◌else◌ own_at
   plan_off r mr [] w h = tt
   plan_off r mr (x ∷ xs) w h =
       by (is_own tx x && With r x) (λ k. lie (sym (rw (k, any) at h)))
@@ -185,12 +185,12 @@ module _ (tx : ℕ) (all : List Row) (d : Pairs Differ all) where
   -- a row at the key of x, the newest own one
   hit_mark : (x r : Row) (os : List Op) → Mem r all → With x r ≡ true → x.1.mark ≡ true
       → row_after (plan_key x (keep (With x) all) ++ os) r ≡ by_newest (some x) r
-  unfolding plan_key if◌then◌else◌ by_newest
+  unfolding plan_key if'◌then◌else◌ by_newest
   hit_mark x r os mr h m = rw m (hit_remove_all os (mem_keep (With x) mr h))
 
   hit_other : (x r : Row) (os : List Op) → Mem r all → With x r ≡ true → x.1.mark ≡ false → is_row (number x) r ≡ false
       → row_after (plan_key x (keep (With x) all) ++ os) r ≡ by_newest (some x) r
-  unfolding plan_key if◌then◌else◌ by_newest row_after number
+  unfolding plan_key if'◌then◌else◌ by_newest row_after number
   hit_other x r os mr h m k = rw (m, k) (hit_remove_all os (mem_keep (λ y. not (is_row (number x) y)) (mem_keep (With x) mr h) (ap not k)))
 
   others_miss : (x : Row) (vs : List Row) → AllOf (λ y. is_row (number y) (x.0, as_committed x.1) ≡ false) (keep (λ y. not (is_row (number x) y)) vs)
@@ -207,15 +207,15 @@ module _ (tx : ℕ) (all : List Row) (d : Pairs Differ all) where
 
   plan_key_live : (x : Row) (vs : List Row) → x.1.mark ≡ false
       → plan_key x vs ≡ to_commit (number x) ∷ remove_all (keep (λ y. not (is_row (number x) y)) vs)
-  unfolding plan_key if◌then◌else◌
+  unfolding plan_key if'◌then◌else◌
   plan_key_live x vs m = rw m
 
   commits_self : (x : Row) (os : List Op) → is_row (number x) x ≡ true → row_after (to_commit (number x) ∷ os) x ≡ row_after os (x.0, as_committed x.1)
-  unfolding row_after if◌then◌else◌
+  unfolding row_after if'◌then◌else◌
   commits_self x os k = rw k
 
   newest_live : (x r : Row) → x.1.mark ≡ false → is_row (number x) r ≡ true → by_newest (some x) r ≡ (x.0, as_committed x.1) ∷ []
-  unfolding by_newest if◌then◌else◌ kept_row number
+  unfolding by_newest if'◌then◌else◌ kept_row number
   newest_live x r m k = rw (m, k)
 
   hit_step : (x : Row) (os : List Op) → x.1.mark ≡ false → is_row (number x) x ≡ true
@@ -227,7 +227,7 @@ module _ (tx : ℕ) (all : List Row) (d : Pairs Differ all) where
       ∙ sym (newest_live x x m k)
 
   hit_self : (x : Row) (os : List Op) → x.1.mark ≡ false → AllOf (Off x) os → row_after (plan_key x (keep (With x) all) ++ os) x ≡ by_newest (some x) x
-  unfolding plan_key if◌then◌else◌ by_newest row_after kept_row
+  unfolding plan_key if'◌then◌else◌ by_newest row_after kept_row
   hit_self x os m off =
       let y : Row = (x.0, as_committed x.1) in
       let vs = keep (With x) all in
@@ -287,15 +287,15 @@ module _ (tx : ℕ) (all : List Row) (d : Pairs Differ all) where
   plan_after r mr [] w = unfold plan_rows row_after by_newest last in refl
   plan_after r mr (x ∷ xs) w = plan_step r x xs mr w.0 w.1 (plan_after r mr xs w.1)
 
-  abort_after : (r : Row) → Mem r all → row_after (remove_all (keep (is_own tx) all)) r ≡ (if is_own tx r then [] else r ∷ [])
+  abort_after : (r : Row) → Mem r all → row_after (remove_all (keep (is_own tx) all)) r ≡ (if' is_own tx r then [] else r ∷ [])
   unfolding number
   abort_after r mr =
       by (is_own tx r)
-      (λ o. ap (λ z. row_after z r) (sym (append-nil (remove_all (keep (is_own tx) all)))) ∙ hit_remove_all [] (mem_keep (is_own tx) mr o) ∙ (unfold if◌then◌else◌ in rw o))
+      (λ o. ap (λ z. row_after z r) (sym (append-nil (remove_all (keep (is_own tx) all)))) ∙ hit_remove_all [] (mem_keep (is_own tx) mr o) ∙ (unfold if'◌then◌else◌ in rw o))
       (λ o. off_after (remove_all (keep (is_own tx) all)) r
       (off_remove_all r (keep (is_own tx) all) (all_map (λ y. (is_own tx y ≡ true) × Mem y all) (λ y. is_row (number y) r ≡ false)
       (λ y q. row_false (number y) r (λ e. lie (sym o ∙ ap (is_own tx) (sym (mem_all (λ y. y.1.number ≡ r.1.number → y ≡ r) q.1 (mem_only mr d) (sym e))) ∙ q.0)))
-      (keep (is_own tx) all) (kept_mem (is_own tx) all))) ∙ (unfold if◌then◌else◌ in rw o))
+      (keep (is_own tx) all) (kept_mem (is_own tx) all))) ∙ (unfold if'◌then◌else◌ in rw o))
 
 pub gather_ext : (F G : Row → List Row) (rs : List Row) → AllOf (λ r. F r ≡ G r) rs → gather F rs ≡ gather G rs
 unfolding gather
@@ -307,7 +307,7 @@ unfoldable pub after_commit : ℕ → List Row → Row → List Row
 after_commit tx all r = by_newest (last (own_at tx r.0 r.1.key) all) r
 
 unfoldable pub after_abort : ℕ → Row → List Row
-after_abort tx r = if is_own tx r then [] else r ∷ []
+after_abort tx r = if' is_own tx r then [] else r ∷ []
 
 pub commit_rows : (tx : ℕ) (all : List Row) → Pairs Differ all → gather (row_after (plan_rows tx all all)) all ≡ gather (after_commit tx all) all
 unfolding after_commit

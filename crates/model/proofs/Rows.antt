@@ -1,6 +1,6 @@
 -- The rows of the pages, held and live, as two images of one list of entries; and what each rule on pages does to them.
 use Rattle.basics.proofs.Kit.{◌≡◌, refl, sym, ap, ◌∙◌, subst, ◌≢◌, Bool, true, false, some, none, Option, List, [], ◌∷◌, ◌++◌, append_assoc, append-nil, map, ℕ, ◌≤◌, ◌<◌, eqb, length, arith}
-use Rattle.basics.specs.Basics.{if◌then◌else◌, any}
+use Rattle.basics.specs.Basics.{if'◌then◌else◌, any}
 use Rattle.basics.proofs.Facts.{by, AllOf}
 use Rattle.block_forms.specs.Tuple.{Owner, committed, Tuple}
 use Rattle.image_rows.specs.Rows.{Row, rows_of, number}
@@ -37,7 +37,7 @@ plain es = map as_row es
 -- live: pending operations taken as done
 unfoldable pub live_rows : List Entry → List Row
 live_rows [] = []
-live_rows (e ∷ es) = if is_removing e.1.pending then live_rows es else (e.0, applied e.1) ∷ live_rows es
+live_rows (e ∷ es) = if' is_removing e.1.pending then live_rows es else (e.0, applied e.1) ∷ live_rows es
 
 -- ---- appending
 
@@ -53,7 +53,7 @@ tagged_append [] b = refl
 tagged_append (p ∷ a) b = rw (tagged_append a b, append_assoc)
 
 pub live_append : (a b : List Entry) → live_rows (a ++ b) ≡ live_rows a ++ live_rows b
-unfolding live_rows if◌then◌else◌
+unfolding live_rows if'◌then◌else◌
 live_append [] b = refl
 live_append (r ∷ a) b = by (is_removing r.1.pending) (λ h. rw (h, live_append a b)) (λ h. rw (h, live_append a b))
 
@@ -66,7 +66,7 @@ plain_rows t [] = refl
 plain_rows t (x ∷ xs) = rw (plain_rows t xs)
 
 pub live_rows_lem : (t : ℕ) (ts : List Held) → live_rows (with_table t ts) ≡ rows_of t (live ts)
-unfolding live_rows rows_of live if◌then◌else◌
+unfolding live_rows rows_of live if'◌then◌else◌
 live_rows_lem t [] = refl
 live_rows_lem t (x ∷ xs) = by (is_removing x.pending) (λ h. rw (h, live_rows_lem t xs)) (λ h. rw (h, live_rows_lem t xs))
 
@@ -159,7 +159,7 @@ sub_pairs R f (take {a} {b} e s) h =
 
 -- the live rows among those held
 pub live_sub : (es : List Entry) → Sub (live_rows es) (plain es)
-unfolding live_rows if◌then◌else◌ applied as_committed
+unfolding live_rows if'◌then◌else◌ applied as_committed
 live_sub [] = empty
 live_sub (e ∷ es) = by (is_removing e.1.pending) (λ h. rw h (skip (live_sub es))) (λ h. rw h (take (go (is_committing e.1.pending) refl) (live_sub es)))
   where
@@ -170,7 +170,7 @@ live_sub (e ∷ es) = by (is_removing e.1.pending) (λ h. rw h (skip (live_sub e
 -- ---- thawing: the live rows stay
 
 without_pending_plain : (t : ℕ) (xs : List Tuple) → (plain (with_table t (map without_pending xs)) ≡ rows_of t xs) × (live_rows (with_table t (map without_pending xs)) ≡ rows_of t xs)
-unfolding live_rows rows_of without_pending if◌then◌else◌ applied is_removing is_committing
+unfolding live_rows rows_of without_pending if'◌then◌else◌ applied is_removing is_committing
 without_pending_plain t [] = (refl, refl)
 without_pending_plain t (x ∷ xs) = let r = without_pending_plain t xs in (rw r.0, rw r.1)
 
@@ -209,7 +209,7 @@ unfolding tagged
 tagged_page o p ps = tagged_append (list_of o) (p ∷ ps)
 
 still_thaw_on : (b : ℕ) (o : Option Page) (p : Page) (ps : List Page) → PageOk p → Still (tagged (thaw_on b o p ps)) (tagged (list_of o ++ p ∷ ps))
-unfolding thaw_on if◌then◌else◌ fresh
+unfolding thaw_on if'◌then◌else◌ fresh
 still_thaw_on b o p ps ok =
     let ts = map without_pending (live p.tuples) in
     let q = fresh p.table ts in
@@ -241,7 +241,7 @@ still_thaw b ps a = still_around b none ps a
 
 unfoldable pub amend : (Row → List Row) → ℕ → List Row → List Row
 amend G n [] = []
-amend G n (r ∷ rs) = if is_row n r then G r ++ amend G n rs else r ∷ amend G n rs
+amend G n (r ∷ rs) = if' is_row n r then G r ++ amend G n rs else r ∷ amend G n rs
 
 unfoldable pub away : Row → List Row
 away r = []
@@ -262,7 +262,7 @@ is_number n h = eqb h.tuple.number n
 
 -- a live row is its tuple but for the owner
 pub applied_is : (h : Held) → applied h ≡ record { key = h.tuple.key; number = h.tuple.number; owner = (applied h).owner; mark = h.tuple.mark; payload = h.tuple.payload }
-unfolding applied as_committed if◌then◌else◌
+unfolding applied as_committed if'◌then◌else◌
 applied_is h = by (is_committing h.pending) (λ k. rw k) (λ k. rw k)
 
 applied_number : (n t : ℕ) (x : Held) → is_row n (t, applied x) ≡ is_number n x
@@ -271,7 +271,7 @@ applied_number n t x = ap (λ (z : Tuple). eqb z.number n) (applied_is x)
 
 -- rows without that number stay
 amend_off : (G : Row → List Row) (n : ℕ) (rs : List Entry) → AllOf (λ r. is_number n r.1 ≡ false) rs → amend G n (live_rows rs) ≡ live_rows rs
-unfolding amend live_rows if◌then◌else◌
+unfolding amend live_rows if'◌then◌else◌
 amend_off G n [] h = refl
 amend_off G n (r ∷ rs) h =
     by (is_removing r.1.pending) (λ k. rw k (amend_off G n rs h.1))
@@ -308,7 +308,7 @@ module _ (g : Held → List Held) (G : Row → List Row) (E : Edits g G) where
   edit_sub (suc i) (e ∷ es) = take (refl, refl, refl, refl, still) (edit_sub i es)
 
   edit_live : (n : ℕ) (es : List Entry) → Pairs Apart es → live_rows (edit_entry g (place_in n (map number_of es)) es) ≡ amend G n (live_rows es)
-  unfolding edit_entry first_index live_rows amend is_number if◌then◌else◌
+  unfolding edit_entry first_index live_rows amend is_number if'◌then◌else◌
   edit_live n [] d = refl
   edit_live n (e ∷ es) d =
       by (eqb (number_of e) n)
@@ -331,7 +331,7 @@ unfolding remove_now away live_rows
 removed_edits = record { dead = λ t x h. refl; alive = λ t x h. refl; among = λ t x. skip empty }
 
 pub pend_remove_edits : Edits pend_remove away
-unfolding pend_remove away live_rows if◌then◌else◌ with_pending is_removing
+unfolding pend_remove away live_rows if'◌then◌else◌ with_pending is_removing
 pend_remove_edits = record {
   dead = λ t x h. by (is_adding x.pending) (λ k. rw k) (λ k. rw k);
   alive = λ t x h. by (is_adding x.pending) (λ k. rw k) (λ k. rw k);
@@ -339,7 +339,7 @@ pend_remove_edits = record {
 }
 
 pub kept_edits : Edits commit_now kept_row
-unfolding commit_now kept_row live_rows if◌then◌else◌ as_committed applied with_pending
+unfolding commit_now kept_row live_rows if'◌then◌else◌ as_committed applied with_pending
 kept_edits = record {
   dead = λ t x h. rw h;
   alive = λ t x h. by (is_committing x.pending) (λ k. rw (h, k)) (λ k. rw (h, k));
@@ -347,7 +347,7 @@ kept_edits = record {
 }
 
 pub pend_commit_edits : Edits pend_commit kept_row
-unfolding pend_commit commit_now kept_row live_rows if◌then◌else◌ as_committed applied with_pending is_removing is_committing
+unfolding pend_commit commit_now kept_row live_rows if'◌then◌else◌ as_committed applied with_pending is_removing is_committing
 pend_commit_edits = record {
   dead = λ t x h. by (is_adding x.pending) (λ k. rw (k, h)) (λ k. rw (k, h, h));
   alive = λ t x h. by (is_adding x.pending) (λ k. by (is_committing x.pending) (λ m. rw (k, h, m)) (λ m. rw (k, h, m)))

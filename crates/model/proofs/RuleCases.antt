@@ -1,6 +1,6 @@
 -- Cases of the rules, by which every induction over them goes.
 use Rattle.basics.proofs.Kit.{◌≡◌, true, some, none, Option, List, [], ◌∷◌, ◌++◌, ℕ, ◌-◌, eqb, ltb, length, not, false, refl, subst, append-nil, ◌≤◌, ◌+◌, not-true, eqb-true, leb-true}
-use Rattle.basics.specs.Basics.{if◌then◌else◌, sum, is_empty}
+use Rattle.basics.specs.Basics.{if'◌then◌else◌, sum, is_empty}
 use Rattle.basics.proofs.Facts.{AllOf, by, never, by-option, and_true}
 use Rattle.basics.proofs.Elements.{all_append, some_eq}
 use Rattle.block_forms.specs.Tuple.{Tuple}
@@ -12,7 +12,7 @@ use Rattle.model.specs.Rules.{grown, place_after, after, entering, list_of, at_r
 pub after_cases : {X : Type 0} (t : ℕ) (x : Tuple) (p : Page) (ps qs : List Page) → place_after t x (p ∷ ps) ≡ some qs
     → ((ts : List Held) → place_after t x ps ≡ none → eqb p.table t ≡ true → after (entering p x) p.tuples ≡ some ts → grown p ts ++ ps ≡ qs → X)
     → ((ws : List Page) → place_after t x ps ≡ some ws → p ∷ ws ≡ qs → X) → X
-unfolding place_after if◌then◌else◌
+unfolding place_after if'◌then◌else◌
 after_cases t x p ps qs e here past =
     by-option (place_after t x ps)
     (λ n. by (eqb p.table t)
@@ -49,7 +49,7 @@ joinable p q e =
 
 next_cases : (S : List Page → Type 0) (rest : List Page) (p : Page) (ps : List Page)
     → ((q : Page) (qs : List Page) → ps ≡ q ∷ qs → Joinable p q → S (joined p q ∷ qs)) → S (rest ++ ps) → S (settle_next rest p ps)
-unfolding settle_next if◌then◌else◌
+unfolding settle_next if'◌then◌else◌
 next_cases S rest p [] r s = subst S (append-nil rest) s
 next_cases S rest p (q ∷ qs) r s = by (joins p q) (λ h. rw h (r q qs refl (joinable p q h))) (λ h. rw h s)
 
@@ -57,7 +57,7 @@ full_cases : (S : List Page → Type 0) (rest : List Page) (o : Option Page) (p 
     → ((q : Page) → o ≡ some q → Joinable q p → S (joined q p ∷ ps))
     → ((q : Page) (qs : List Page) → ps ≡ q ∷ qs → Joinable p q → S (list_of o ++ joined p q ∷ qs))
     → S (list_of o ++ (rest ++ ps)) → S (settle_full rest o p ps)
-unfolding settle_full list_of if◌then◌else◌
+unfolding settle_full list_of if'◌then◌else◌
 full_cases S rest none p ps l r s = next_cases S rest p ps r s
 full_cases S rest (some o) p ps l r s = by (joins o p) (λ h. rw h (l o refl (joinable o p h))) (λ h. rw h (next_cases (λ z. S (o ∷ z)) rest p ps r s))
 
@@ -66,5 +66,5 @@ pub settle_cases : (S : List Page → Type 0) (rest : List Page) (o : Option Pag
     → (is_empty p.tuples ≡ false → (q : Page) → o ≡ some q → Joinable q p → S (joined q p ∷ ps))
     → (is_empty p.tuples ≡ false → (q : Page) (qs : List Page) → ps ≡ q ∷ qs → Joinable p q → S (list_of o ++ joined p q ∷ qs))
     → (is_empty p.tuples ≡ false → S (list_of o ++ (rest ++ ps))) → S (settle rest o p ps)
-unfolding settle if◌then◌else◌
+unfolding settle if'◌then◌else◌
 settle_cases S rest o p ps e l r s = by (is_empty p.tuples) (λ h. rw h (e h)) (λ h. rw h (full_cases S rest o p ps (l h) (r h) (s h)))

@@ -1,6 +1,6 @@
 -- Runs of neighbours of one key: on rising tuples a run has all live rows of its key.
 use Rattle.basics.proofs.Kit.{◌≡◌, refl, sym, ap, ◌∙◌, subst, ap₂, Bool, true, false, List, [], ◌∷◌, ◌++◌, append_assoc, append-nil, map, ℕ, suc, arith}
-use Rattle.basics.specs.Basics.{if◌then◌else◌, keep}
+use Rattle.basics.specs.Basics.{if'◌then◌else◌, keep}
 use Rattle.basics.proofs.Lists.{map_append}
 use Rattle.basics.proofs.Facts.{by, lie, AllOf}
 use Rattle.image_rows.specs.Rows.{Row, is_at}
@@ -15,7 +15,7 @@ use Rattle.model.proofs.RowAfter.{With, with_self, with_as, with_sym, at_split, 
 -- ---- the live rows of placed tuples
 
 live_append : (a b : List Placed) → live_of (a ++ b) ≡ live_of a ++ live_of b
-unfolding live_of if◌then◌else◌
+unfolding live_of if'◌then◌else◌
 live_append [] b = refl
 live_append (x ∷ a) b = by (is_removing x.1.1.pending) (λ h. rw (h, live_append a b)) (λ h. rw (h, live_append a b))
 
@@ -23,14 +23,14 @@ pub rows_append : (a b : List Placed) → rows_in (a ++ b) ≡ rows_in a ++ rows
 rows_append a b = ap (map (λ y. y.1)) (live_append a b) ∙ map_append (λ y. y.1) (live_of a) (live_of b)
 
 pub rows_placed : (i : ℕ) (es : List Entry) → rows_in (placed i es) ≡ live_rows es
-unfolding placed live_of live_rows if◌then◌else◌
+unfolding placed live_of live_rows if'◌then◌else◌
 rows_placed i [] = refl
 rows_placed i (e ∷ es) =
     by (is_removing e.1.pending) (λ h. rw h (rows_placed (suc i) es)) (λ h. rw h (ap (λ z. (e.0, applied e.1) ∷ z) (rows_placed (suc i) es)))
 
 -- the key of a live row is its tuple's
 rows_at : (t k : ℕ) (b : Bool) (xs : List Placed) → AllOf (λ x. is_at t k (row_of x) ≡ b) xs → AllOf (λ r. is_at t k r ≡ b) (rows_in xs)
-unfolding live_of is_at if◌then◌else◌
+unfolding live_of is_at if'◌then◌else◌
 rows_at t k b [] a = tt
 rows_at t k b (x ∷ xs) a =
     by (is_removing x.1.1.pending) (λ h. rw h (rows_at t k b xs a.1)) (λ h. rw h (ap (λ z. is_at t k (x.1.0, z)) (applied_is x.1.1) ∙ a.0, rows_at t k b xs a.1))

@@ -2,7 +2,7 @@
 use Rattle.block_forms.specs.Limits.{most_transaction}
 use Rattle.basics.proofs.Kit.{◌≡◌, refl, sym, ap, ◌∙◌, ap₂, Bool, true, false, not, some, none, Option, List, [], ◌∷◌, ◌++◌, append-nil, ℕ, suc, ◌+◌, ◌≤◌, ◌<◌, eqb, ltb}
 use Rattle.basics.proofs.Kit.{length, arith}
-use Rattle.basics.specs.Basics.{if◌then◌else◌, keep, last, first, is_in}
+use Rattle.basics.specs.Basics.{if'◌then◌else◌, keep, last, first, is_in}
 use Rattle.basics.proofs.Facts.{by, lie, AllOf, by-option}
 use Rattle.block_forms.specs.Tuple.{is_tentative, Owner, committed, tentative}
 use Rattle.calendar.specs.Calendar.{minutes, rows_of, is_open}
@@ -47,11 +47,11 @@ above_next : (t k : ℕ) (r s : Row) → Above t k r → Before r s → Above t 
 above_next t k r s a b = (omega (arith, a.0, b.0), λ u. let z = a.1 (omega (arith, b.0)) in let w = b.1 (omega (arith, a.0)) in omega (arith, w.0))
 
 insert_past : (x r : Row) (rs : List Row) → not_above x r ≡ true → insert_row x (r ∷ rs) ≡ r ∷ insert_row x rs
-unfolding insert_row if◌then◌else◌
+unfolding insert_row if'◌then◌else◌
 insert_past x r rs h = rw h
 
 insert_here : (x r : Row) (rs : List Row) → not_above x r ≡ false → insert_row x (r ∷ rs) ≡ x ∷ r ∷ rs
-unfolding insert_row if◌then◌else◌
+unfolding insert_row if'◌then◌else◌
 insert_here x r rs h = rw h
 
 insert_nil : (x : Row) → insert_row x [] ≡ x ∷ []
@@ -132,7 +132,7 @@ module _ (s : Store) (v : Valid s) (tx t k : ℕ) (bs : List ℕ) (m : Bool) whe
   own_written = ap (last (is_own tx)) at_written ∙ last_new (is_own tx) x (eqb_self tx) (versions t k s.pages)
 
   -- its own newest version; a delete mark means absent
-  sees_own : seen tx t k (with_tuple tx t k bs m s).store ≡ (if m then none else some (t, new_tuple tx k bs m s))
+  sees_own : seen tx t k (with_tuple tx t k bs m s).store ≡ (if' m then none else some (t, new_tuple tx k bs m s))
   unfolding seen seen_of x new_tuple
   sees_own = rw (own_written, seen_of)
 
@@ -151,7 +151,7 @@ module _ (s : Store) (v : Valid s) (tx t k : ℕ) (bs : List ℕ) (m : Bool) whe
 -- ---- abort
 
 abort_keeps : (tx : ℕ) (rs : List Row) → gather (after_abort tx) rs ≡ keep (λ r. not (is_own tx r)) rs
-unfolding gather after_abort keep if◌then◌else◌
+unfolding gather after_abort keep if'◌then◌else◌
 abort_keeps tx [] = refl
 abort_keeps tx (r ∷ rs) = by (is_own tx r) (λ h. rw (h, abort_keeps tx rs)) (λ h. rw (h, abort_keeps tx rs))
 
@@ -193,8 +193,8 @@ module _ (tx : ℕ) (s z : Store) (v : Valid s) (e : rows z.pages ≡ gather (af
 
 -- ---- commit
 
-chosen : (m b : Bool) (K : List Row) → m ≡ false → b ≡ true → (if m then [] else if b then K else []) ≡ K
-unfolding if◌then◌else◌
+chosen : (m b : Bool) (K : List Row) → m ≡ false → b ≡ true → (if' m then [] else if' b then K else []) ≡ K
+unfolding if'◌then◌else◌
 chosen true b K h k = lie (sym h)
 chosen false true K h k = refl
 chosen false false K h k = lie k
@@ -204,11 +204,11 @@ unfolding by_newest
 newest_own x u = chosen x.1.mark (is_row (number x) x) (kept_row x) u (row_self x)
 
 newest_other : (x r : Row) → Differ r x → by_newest (some x) r ≡ []
-unfolding by_newest if◌then◌else◌ number
+unfolding by_newest if'◌then◌else◌ number
 newest_other x r d = by x.1.mark (λ u. rw u) (λ u. rw (u, row_false x.1.number r d))
 
 newest_mark : (x r : Row) → x.1.mark ≡ true → by_newest (some x) r ≡ []
-unfolding by_newest if◌then◌else◌
+unfolding by_newest if'◌then◌else◌
 newest_mark x r u = rw u
 
 -- the newest own version alone is left
@@ -222,7 +222,7 @@ one_left {x} (there {y} {rs} m) d u =
 
 -- a committed version alone is seen by all
 seen_kept : (u : ℕ) (r : Row) → seen_of u (kept_row r) ≡ some (r.0, as_committed r.1)
-unfolding seen_of kept_row last first is_own is_by as_committed is_tentative if◌then◌else◌
+unfolding seen_of kept_row last first is_own is_by as_committed is_tentative if'◌then◌else◌
 seen_kept u r = refl
 
 pub seen_none : (u : ℕ) → seen_of u [] ≡ none
@@ -245,7 +245,7 @@ module _ (tx : ℕ) (s z : Store) (v : Valid s) (e : rows z.pages ≡ gather (af
       ap (seen_of u) (at_committed ∙ ap (λ o. gather (by_newest o) vs) n ∙ newest_stays tx (open_numbers s.active) (rows s.pages) v.sees (rows_differ s v) vs)
 
   committed_key : (r : Row) → last (is_own tx) (versions t k s.pages) ≡ some r → seen u t k z ≡ remains r
-  unfolding seen remains if◌then◌else◌
+  unfolding seen remains if'◌then◌else◌
   committed_key r n =
       let vs = versions t k s.pages in
       let q = at_committed ∙ ap (λ o. gather (by_newest o) vs) n in
@@ -257,7 +257,7 @@ module _ (tx : ℕ) (s z : Store) (v : Valid s) (e : rows z.pages ≡ gather (af
 -- ---- reading
 
 pub answer_unless : (ts : List Test) (s z : Store) (o q : Outcome) → o.answer ≡ q.answer → (unless ts s o).answer ≡ (unless ts z q).answer
-unfolding unless if◌then◌else◌ gives
+unfolding unless if'◌then◌else◌ gives
 answer_unless [] s z o q e = e
 answer_unless ((n when b) ∷ ts) s z o q e = by b (λ h. rw h) (λ h. rw h (answer_unless ts s z o q e))
 
@@ -276,11 +276,11 @@ same_read u t k room s z o e =
 
 module _ (u t k room : ℕ) (z : Store) (few : ltb most_transaction u ≡ false) (o : is_in u (open_numbers z.active) ≡ true) (tb : ltb 7 t ≡ false) where
   reads_some : (r : Row) → seen u t k z ≡ some r → length r.1.payload ≤ room → (read_call u t k room z).answer ≡ filled (length r.1.payload) r.1.payload
-  unfolding read_call not_open no_table unless if◌then◌else◌ read_seen replied gives
+  unfolding read_call not_open no_table unless if'◌then◌else◌ read_seen replied gives
   reads_some r e l = rw (few, o, tb, e) (rw (lt_false room (length r.1.payload) l))
 
   reads_none : seen u t k z ≡ none → (read_call u t k room z).answer ≡ refused 14
-  unfolding read_call not_open no_table unless if◌then◌else◌ read_seen gives
+  unfolding read_call not_open no_table unless if'◌then◌else◌ read_seen gives
   reads_none e = rw (few, o, tb, e)
 
 -- ---- the claims
@@ -290,13 +290,13 @@ still_listed tx u s h = ap (is_in u) (numbers_write tx s.active) ∙ h
 
 module _ (s : Store) (v : Valid s) (tx t k room : ℕ) (few : ltb most_transaction tx ≡ false) (o : not (is_in tx (open_numbers s.active)) ≡ false) (tb : ltb 7 t ≡ false) where
   wrote_reads : (bs : List ℕ) → length bs ≤ room → (read_call tx t k room (with_tuple tx t k bs false s).store).answer ≡ filled (length bs) bs
-  unfolding with_tuple after_write gives changed new_tuple if◌then◌else◌
+  unfolding with_tuple after_write gives changed new_tuple if'◌then◌else◌
   wrote_reads bs l =
       reads_some tx t k room (with_tuple tx t k bs false s).store few (still_listed tx tx s (not-false _ o)) tb (t, new_tuple tx k bs false s)
       (sees_own s v tx t k bs false) l
 
   wrote_mark : (read_call tx t k room (with_tuple tx t k [] true s).store).answer ≡ refused 14
-  unfolding with_tuple after_write gives changed if◌then◌else◌
+  unfolding with_tuple after_write gives changed if'◌then◌else◌
   wrote_mark = reads_none tx t k room (with_tuple tx t k [] true s).store few (still_listed tx tx s (not-false _ o)) tb (sees_own s v tx t k [] true)
 
 pub newest_written : NewestWritten

@@ -2,7 +2,7 @@
 use Rattle.block_forms.specs.Limits.{record_space, most_record}
 use Rattle.basics.proofs.Kit.{◌≡◌, refl, sym, ◌∙◌, subst, true, false, some, none, Option, List, [], ◌∷◌, ◌++◌, map, ℕ, suc, ◌+◌, ◌*◌, ◌≤◌, ◌<◌, zero, ◌-◌, min, leb, eqb, ltb}
 use Rattle.basics.proofs.Kit.{length, take, drop, length-append, length-take, length-drop, length-map, arith}
-use Rattle.basics.specs.Basics.{sum, if◌then◌else◌, is_empty, any}
+use Rattle.basics.specs.Basics.{sum, if'◌then◌else◌, is_empty, any}
 use Rattle.basics.proofs.Facts.{AllOf, lie, by, never, by-option}
 use Rattle.block_forms.specs.Tuple.{Tuple, size, owner_size}
 use Rattle.model.specs.State.{Held, nothing, Page, adding, Pending, removing, committing}
@@ -52,7 +52,7 @@ frozen_ok p ts h a e w = (a, λ k. lie (sym k ∙ h), λ k. rw e w)
 -- the first part is at least half, and at most half and a tuple
 lead_size : (w a : ℕ) (xs : List Held) → 2 * a < w → w ≡ a + sum held_size xs → AllOf Small xs
     → (w ≤ 2 * (a + sum held_size (take (lead w a xs) xs))) × (2 * (a + sum held_size (take (lead w a xs) xs)) < w + 2 * most_record)
-unfolding lead sum if◌then◌else◌
+unfolding lead sum if'◌then◌else◌
 lead_size w a [] h e s = absurd (omega arith)
 lead_size w a (x ∷ xs) h e s =
     by (leb w (2 * (a + held_size x)))
@@ -62,7 +62,7 @@ lead_size w a (x ∷ xs) h e s =
     rw t (omega arith, omega arith))
 
 split_once_lem : (ts : List Held) → AllOf NothingPending ts → 0 < length ts → sum held_size ts ≤ record_space + most_record → AllOf Fine (split_once ts)
-unfolding split_once if◌then◌else◌ fits half
+unfolding split_once if'◌then◌else◌ fits half
 split_once_lem ts c p l =
     by (leb (sum held_size ts) record_space) (λ h. rw h ((c, leb-true (sum held_size ts) record_space h, p), tt))
     (λ h.
@@ -76,7 +76,7 @@ split_once_lem ts c p l =
     rw h ((all_take _ k ts c, omega arith, omega arith), ((all_drop _ k ts c, omega arith, omega arith), tt)))
 
 after_sum : (x : Held) (ys zs : List Held) → after x ys ≡ some zs → (sum held_size zs ≡ held_size x + sum held_size ys) × (0 < length zs)
-unfolding after if◌then◌else◌ sum
+unfolding after if'◌then◌else◌ sum
 after_sum x [] zs e = never e
 after_sum x (y ∷ ys) zs e =
     by-option (after x ys)
@@ -92,14 +92,14 @@ unfolding held_size entering
 entering_size p x = refl
 
 entering_without_pending : (p : Page) (x : Tuple) → p.frozen ≡ false → (entering p x).pending ≡ nothing
-unfolding entering if◌then◌else◌
+unfolding entering if'◌then◌else◌
 entering_without_pending p x h = rw h
 
 -- a page takes the tuples zs, which are its own and x
 all_grown : (p : Page) (zs : List Held) (ps : List Page) → AllOf Small zs
     → (p.frozen ≡ true → (shown zs ≡ shown p.tuples) × Whole (shown p.tuples))
     → (p.frozen ≡ false → AllOf NothingPending zs × (sum held_size zs ≤ record_space + most_record) × (0 < length zs)) → AllOf PageOk ps → AllOf PageOk (grown p zs ++ ps)
-unfolding grown if◌then◌else◌
+unfolding grown if'◌then◌else◌
 all_grown p zs ps s w f a =
     by p.frozen (λ h. rw h (frozen_ok _ zs refl s (w h).0 (w h).1, a))
     (λ h. let g = f h in rw h (all_append PageOk (map (fresh p.table) (split_once zs)) ps (all_fresh p.table (split_once zs) (split_once_lem zs g.0 g.2 g.1)) a))
@@ -116,7 +116,7 @@ module _ (t : ℕ) (x : Tuple) (sx : size x ≤ most_record) where
       (λ h. let f = o.1 h in (after_all NothingPending (entering p x) p.tuples zs e (es, entering_without_pending p x h) f.0, omega arith, k.1)) a
 
   all_place_after : (ps qs : List Page) → place_after t x ps ≡ some qs → AllOf PageOk ps → AllOf PageOk qs
-  unfolding place_after if◌then◌else◌
+  unfolding place_after if'◌then◌else◌
   all_place_after [] qs e a = never e
   all_place_after (p ∷ ps) qs e a =
       after_cases t x p ps qs e (λ ts n h m k. subst (AllOf PageOk) k (grown_after p ts ps m a.0 a.1))
@@ -127,7 +127,7 @@ module _ (t : ℕ) (x : Tuple) (sx : size x ≤ most_record) where
   alone = (((sx, refl), tt), omega arith, omega arith)
 
   grown_front : (p : Page) (ps : List Page) → PageOk p → AllOf PageOk ps → AllOf PageOk (grown p (entering p x ∷ p.tuples) ++ ps)
-  unfolding sum shown if◌then◌else◌
+  unfolding sum shown if'◌then◌else◌
   grown_front p ps o a =
       let eq = entering_size p x in
       let es : held_size (entering p x) ≤ most_record = omega arith in
@@ -135,7 +135,7 @@ module _ (t : ℕ) (x : Tuple) (sx : size x ≤ most_record) where
       (λ h. let f = o.1 h in (((es, entering_without_pending p x h), f.0), omega arith, omega arith)) a
 
   all_place_front : (ps : List Page) → AllOf PageOk ps → AllOf PageOk (place_front t x ps)
-  unfolding place_front if◌then◌else◌
+  unfolding place_front if'◌then◌else◌
   all_place_front [] a = (fresh_ok t (without_pending x ∷ []) alone, tt)
   all_place_front (p ∷ ps) a =
       by (ltb p.table t) (λ h. rw h (a.0, all_place_front ps a.1))
@@ -193,7 +193,7 @@ unfolding commit_now sum held_size
 kept_size x = let c = committed_size x.tuple in omega arith
 
 pend_remove_small : (x : Held) → Small x → AllOf Small (pend_remove x)
-unfolding pend_remove if◌then◌else◌
+unfolding pend_remove if'◌then◌else◌
 pend_remove_small x s = by (is_adding x.pending) (λ h. rw h tt) (λ h. let k = pending_size removing x in rw h (omega arith, tt))
 
 kept_small : (x : Held) → Small x → AllOf Small (commit_now x)
@@ -201,7 +201,7 @@ unfolding commit_now held_size
 kept_small x s = let c = committed_size x.tuple in (omega arith, tt)
 
 pend_commit_small : (x : Held) → Small x → AllOf Small (pend_commit x)
-unfolding pend_commit if◌then◌else◌
+unfolding pend_commit if'◌then◌else◌
 pend_commit_small x s =
     by (is_adding x.pending) (λ h. rw h (kept_small x s))
     (λ h. by (is_removing x.pending) (λ m. rw (h, m) (s, tt)) (λ m. let k = pending_size committing x in rw (h, m) (omega arith, tt)))
@@ -211,12 +211,12 @@ unfolding commit_now held_size
 kept_without_pending x c = let k = committed_size x.tuple in ((omega (arith, c.0), c.1), tt)
 
 taken_small : (j : ℕ) (ts : List Held) → AllOf Small ts → AllOf Small (pend_remove_at j ts)
-unfolding pend_remove_at if◌then◌else◌
+unfolding pend_remove_at if'◌then◌else◌
 taken_small j ts a = by (is_empty (edit_at pend_remove j ts)) (λ h. rw h a) (λ h. rw h (edit_all Small pend_remove pend_remove_small j ts a))
 
 remove_row_on_ok : (j : ℕ) (o : Option Page) (p : Page) (ps : List Page) → AllOf PageOk (list_of o) → AllOf PageOk (p ∷ ps)
     → AllOf PageOk (remove_row_on j o p ps)
-unfolding remove_row_on if◌then◌else◌ remove_now sum fresh
+unfolding remove_row_on if'◌then◌else◌ remove_now sum fresh
 remove_row_on_ok j o p ps l a =
     by p.frozen
     (λ h. rw h (all_append PageOk (list_of o) _ l (frozen_ok _ _ refl (taken_small j p.tuples a.0.0) (shown_taken_at j p.tuples) (a.0.2 h), a.1)))
@@ -234,7 +234,7 @@ kept_length (suc j) (x ∷ xs) = rw (kept_length j xs)
 
 commit_row_on_ok : (j : ℕ) (o : Option Page) (p : Page) (ps : List Page) → AllOf PageOk (list_of o) → AllOf PageOk (p ∷ ps)
     → AllOf PageOk (commit_row_on j o p ps)
-unfolding commit_row_on committed_at if◌then◌else◌ commit_now sum
+unfolding commit_row_on committed_at if'◌then◌else◌ commit_now sum
 commit_row_on_ok j o p ps l a =
     by p.frozen
     (λ h. rw h (all_append PageOk (list_of o) _ l
@@ -262,11 +262,11 @@ carry_ok n (remove_place i ∷ os) ps a = carry_ok n os _ (remove_row_ok _ ps a)
 -- ---- thawing
 
 applied_size : (x : Held) → size (applied x) ≤ held_size x
-unfolding applied if◌then◌else◌ held_size
+unfolding applied if'◌then◌else◌ held_size
 applied_size x = let c = committed_size x.tuple in by (is_committing x.pending) (λ h. rw h c) (λ h. rw h (omega arith))
 
 pub live_without_pending : (ts : List Held) → AllOf Small ts → AllOf NothingPending (map without_pending (live ts))
-unfolding live if◌then◌else◌ without_pending held_size
+unfolding live if'◌then◌else◌ without_pending held_size
 live_without_pending [] a = tt
 live_without_pending (x ∷ xs) a =
     let s = applied_size x in
@@ -305,7 +305,7 @@ without_pending_of (x ∷ xs) e a = go x.pending refl (without_pending_of xs)
 
 thaw_on_ok : (b : ℕ) (o : Option Page) (p : Page) (ps : List Page) → p.frozen ≡ true → AllOf PageOk (list_of o) → AllOf PageOk (p ∷ ps)
     → AllOf PageOk (thaw_on b o p ps)
-unfolding thaw_on if◌then◌else◌ fresh
+unfolding thaw_on if'◌then◌else◌ fresh
 thaw_on_ok b o p ps f l a =
     by (any (λ x. is_pending x.pending) p.tuples)
     (λ h. let c = live_without_pending p.tuples a.0.0 in

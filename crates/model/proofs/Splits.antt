@@ -1,7 +1,7 @@
 -- Splitting: the parts append to the whole, none is empty, and all fit; and where a tuple is placed on a page.
 use Rattle.basics.proofs.Kit.{◌≡◌, refl, sym, subst, true, false, some, none, List, [], ◌∷◌, ◌++◌, append_assoc, append-nil, ℕ, suc, ◌+◌, ◌*◌, ◌≤◌, ◌<◌, zero, ◌-◌, min, leb, length, take}
 use Rattle.basics.proofs.Kit.{drop, length-take, length-drop, take-append-drop, arith}
-use Rattle.basics.specs.Basics.{if◌then◌else◌, sum, is_empty}
+use Rattle.basics.specs.Basics.{if'◌then◌else◌, sum, is_empty}
 use Rattle.basics.proofs.Facts.{by, AllOf, never, by-option}
 use Rattle.block_forms.specs.Limits.{most_record, record_space}
 use Rattle.model.specs.State.{Held}
@@ -11,7 +11,7 @@ use Rattle.basics.proofs.Elements.{leb-false, nonempty, all_take, all_drop, all_
 -- ---- one split
 
 lead_pos : (w a : ℕ) (x : Held) (xs : List Held) → 0 < lead w a (x ∷ xs)
-unfolding lead if◌then◌else◌
+unfolding lead if'◌then◌else◌
 lead_pos w a x xs = by (leb w (2 * (a + held_size x))) (λ h. rw h (omega arith)) (λ h. rw h (omega arith))
 
 -- no larger than the largest record
@@ -19,7 +19,7 @@ abbrev pub Small : Held → Type 0
 Small x = held_size x ≤ most_record
 
 lead_short : (w a : ℕ) (xs : List Held) → 2 * most_record < w → 2 * a < w → w ≡ a + sum held_size xs → AllOf Small xs → lead w a xs < length xs
-unfolding lead sum if◌then◌else◌
+unfolding lead sum if'◌then◌else◌
 lead_short w a [] big h e s = absurd (omega arith)
 lead_short w a (x ∷ []) big h e s = absurd (omega arith)
 lead_short w a (x ∷ y ∷ ys) big h e s =
@@ -71,14 +71,14 @@ unfolding split_all
 split_all_lem ts p s = split_deep_lem (length ts) ts (omega arith) p s
 
 pub once_together : (ts : List Held) → together (split_once ts) ≡ ts
-unfolding together split_once if◌then◌else◌
+unfolding together split_once if'◌then◌else◌
 once_together ts = by (fits ts) (λ h. rw (h, append-nil)) (λ h. rw (h, append-nil) (take-append-drop (half ts) ts))
 
 -- ---- where a tuple is placed
 
 -- where x is placed, it and the old tuples are all that there is
 pub after_all : (P : Held → Type 0) (x : Held) (ys zs : List Held) → after x ys ≡ some zs → P x → AllOf P ys → AllOf P zs
-unfolding after if◌then◌else◌
+unfolding after if'◌then◌else◌
 after_all P x [] zs e p ps = never e
 after_all P x (y ∷ ys) zs e p ps =
     by-option (after x ys)
@@ -89,7 +89,7 @@ after_all P x (y ∷ ys) zs e p ps =
 
 -- where it is not, all keys are above
 pub after_none : (x : Held) (ys : List Held) → after x ys ≡ none → AllOf (λ z. x.tuple.key < z.tuple.key) ys
-unfolding after if◌then◌else◌
+unfolding after if'◌then◌else◌
 after_none x [] e = tt
 after_none x (y ∷ ys) e =
     by-option (after x ys)

@@ -1,7 +1,7 @@
 -- One step of a running checkpoint keeps what holds, and writes a block whose fields are in range.
 use Rattle.basics.proofs.Kit.{◌≡◌, refl, sym, ap, ◌∙◌, subst, ap₂, Bool, true, false, not, some, none, List, [], ◌∷◌, ◌++◌, map, tail, ℕ, suc, ◌*◌, ◌≤◌, ◌<◌, zero, min, eqb, ltb, length}
 use Rattle.basics.proofs.Kit.{drop, get_or, length-map, arith, length-take}
-use Rattle.basics.specs.Basics.{if◌then◌else◌, all, first, is_in, any, every}
+use Rattle.basics.specs.Basics.{if'◌then◌else◌, all, first, is_in, any, every}
 use Rattle.basics.proofs.Facts.{AllOf, lie, by}
 use Rattle.block_forms.specs.Block.{page, Block, header, InRange, directory}
 use Rattle.block_forms.specs.Limits.{record_space, block_limit, entries_per_block}
@@ -39,7 +39,7 @@ abbrev pub FrozenSmall : Store → Type 0
 FrozenSmall s = AllOf (λ p. p.frozen ≡ true → sizes (shown p.tuples) ≤ record_space) s.pages
 
 pub storable_is : (ts : List Tuple) → sizes ts ≤ record_space → storable ts ≡ ts
-unfolding storable if◌then◌else◌
+unfolding storable if'◌then◌else◌
 storable_is ts h = rw (le_true (sizes ts) record_space h)
 
 -- the block x is the header of the store b, one level higher
@@ -56,7 +56,7 @@ pub data Stepped (n : ℕ) (img : View) (s b b₀ : Store) (o : Outcome) : Type 
   still : o.writes ≡ [] → Inv n img o.store b b₀ → Stepped n img s b b₀ o
   wrote : (w : Write) → o.writes ≡ w ∷ [] → w.at < n → (n ≤ block_limit → FrozenFit s → InRange w.what) → (eqb w.at 0 ≡ true → Top w.what b)
       → (eqb w.at 0 ≡ false → (x : Block) → Good n (put img w.at x) s.used b₀)
-      → Inv n (put img w.at w.what) o.store b (if eqb w.at 0 then b else b₀) → Stepped n img s b b₀ o
+      → Inv n (put img w.at w.what) o.store b (if' eqb w.at 0 then b else b₀) → Stepped n img s b b₀ o
 
 no_dirs : (img : View) (l : ℕ) (es ds : List ℕ) → length ds ≡ 0 → Dirs img l es ds
 no_dirs img l es [] h = tt
@@ -80,7 +80,7 @@ tied_off img l b x pool ps h =
 
 pub page_step : (n : ℕ) (img : View) (s b b₀ : Store) (n₀ : ℕ) (es ds : List ℕ) (p : Page) → BlockUse s → Running n₀ es ds s → Inv n img s b b₀ → Run img s b n₀ es ds
     → FrozenSmall s → first is_frozen s.pages ≡ some p → Stepped n img s b b₀ (store_page n₀ es ds p s)
-unfolding store_page made with_progress if◌then◌else◌ is_frozen
+unfolding store_page made with_progress if'◌then◌else◌ is_frozen
 page_step n img s b b₀ n₀ es ds p bk r inv run small₀ e =
     let ims = images_first s.pages p e in
     let is = tail (images s.pages) in
@@ -128,7 +128,7 @@ entries_low s es z f a = all_map _ _ (λ e h. by (eqb e 0) (λ k. let q = eqb-tr
 
 pub directory_step : (n : ℕ) (img : View) (s b b₀ : Store) (n₀ : ℕ) (es ds : List ℕ) → BlockUse s → Running n₀ es ds s → Inv n img s b b₀ → Run img s b n₀ es ds
     → first is_frozen s.pages ≡ none → ltb (length ds) (directories_for (length es)) ≡ true → Stepped n img s b b₀ (store_directory n₀ es ds s)
-unfolding store_directory made with_progress if◌then◌else◌
+unfolding store_directory made with_progress if'◌then◌else◌
 directory_step n img s b b₀ n₀ es ds bk r inv run e lt =
     let few : length ds < directories_for (length es) = leb-true (suc (length ds)) (directories_for (length es)) lt in
     let i = allocate s in
@@ -334,7 +334,7 @@ module _ (n : ℕ) (img : View) (s b : Store) (n₀ : ℕ) (es ds : List ℕ) (b
 
 pub header_step : (n : ℕ) (img : View) (s b b₀ : Store) (n₀ : ℕ) (es ds : List ℕ) → BlockUse s → Running n₀ es ds s → Inv n img s b b₀ → Run img s b n₀ es ds
     → first is_frozen s.pages ≡ none → ltb (length ds) (directories_for (length es)) ≡ false → Stepped n img s b b₀ (store_header n₀ es ds s)
-unfolding store_header made with_progress if◌then◌else◌
+unfolding store_header made with_progress if'◌then◌else◌
 header_step n img s b b₀ n₀ es ds bk r inv run e lt =
     let ims = images_none s.pages e in
     let L = suc s.level in

@@ -2,7 +2,7 @@
 use Rattle.block_forms.specs.Limits.{entries_per_block}
 use Rattle.basics.proofs.Kit.{◌≡◌, refl, ◌∙◌, subst, false, some, List, [], ◌∷◌, ◌++◌, map, ℕ, suc, ◌+◌, ◌*◌, ◌≤◌, ◌<◌, ◌-◌, min, eqb, length, take, drop, length-take, length-drop}
 use Rattle.basics.proofs.Kit.{take-append-drop, drop-drop, arith}
-use Rattle.basics.specs.Basics.{if◌then◌else◌, is_in, is_empty}
+use Rattle.basics.specs.Basics.{if'◌then◌else◌, is_in, is_empty}
 use Rattle.basics.proofs.Facts.{by, AllOf}
 use Rattle.block_forms.specs.Block.{Block, page, directory}
 use Rattle.image.specs.Stages.{StoredPage, read_pages, add_page, page_ok, read_directories, entries_due, add_entries}
@@ -14,11 +14,11 @@ use Rattle.basics.proofs.Elements.{eqb_self, not_in, eqb-true, le_true}
 use Rattle.model.proofs.Frozen.{Content}
 
 pub put_same : (img : View) (b : ℕ) (x : Block) → put img b x b ≡ x
-unfolding put if◌then◌else◌
+unfolding put if'◌then◌else◌
 put_same img b x = rw (eqb_self b)
 
 pub put_other : (img : View) (b : ℕ) (x : Block) (i : ℕ) → eqb b i ≡ false → put img b x i ≡ img i
-unfolding put if◌then◌else◌
+unfolding put if'◌then◌else◌
 put_other img b x i h = rw h
 
 -- ---- the entries: 0 for a page still to be written, whose image is next among `is`; else its block, which holds its content
@@ -39,7 +39,7 @@ stored_put {img} b x h (stands {es = es} {e = e} k p q u v r) =
 -- the first page still to be written is written
 pub stored_fill : {img : View} {l : ℕ} {es : List ℕ} {cs : List Content} (b : ℕ) (c : Content) (js : List Content) (is : List Content) → js ≡ c ∷ is
     → 0 < b → 0 < l → img b ≡ page c.0 l c.1 → Stored img l es cs js → Stored img l (fill b es) cs is
-unfolding fill if◌then◌else◌
+unfolding fill if'◌then◌else◌
 stored_fill b c js is e p u q end = let z : ◌≡◌ {A = ℕ} 0 1 = cc in absurd (omega arith)
 stored_fill {img} {l} b c js is e p u q (todo {es = es} {cs = cs} {is = is'} {c = d} r) =
     let k : d ≡ c = cc in
@@ -51,7 +51,7 @@ stored_fill b c js is e p u q (stands {e = d} k v w x y r) =
 -- all written: recovery reads the base's pages
 pub stored_read : {img : View} {l : ℕ} {es : List ℕ} {cs is : List Content} → is ≡ [] → AllOf (λ c. is_empty c.1 ≡ false) cs → Stored img l es cs is
     → (ps : List StoredPage) × (read_pages img l es ≡ some ps) × (map content_of ps ≡ cs)
-unfolding read_pages add_page content_of page_ok if◌then◌else◌
+unfolding read_pages add_page content_of page_ok if'◌then◌else◌
 stored_read e s end = ([], refl, refl)
 stored_read e s (todo r) = let z : ◌≡◌ {A = ℕ} 0 1 = cc in absurd (omega arith)
 stored_read {img} {l} e s (stands {c = c} {e = b} k p q u v r) =
@@ -85,7 +85,7 @@ dirs_snoc img l b es (d ∷ ds) h r =
 
 pub dirs_read : (img : View) (l : ℕ) (es ds : List ℕ) → length es ≤ entries_per_block * length ds → Dirs img l es ds
     → read_directories img l (length es) ds ≡ some es
-unfolding read_directories entries_due add_entries if◌then◌else◌
+unfolding read_directories entries_due add_entries if'◌then◌else◌
 dirs_read img l [] [] h r = refl
 dirs_read img l (e ∷ es) [] h r = absurd (omega arith)
 dirs_read img l es (d ∷ ds) h r =

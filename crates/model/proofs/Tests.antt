@@ -1,6 +1,6 @@
 -- Recovery's tests on the rows say what the invariant says.
 use Rattle.basics.proofs.Kit.{◌≡◌, refl, sym, ap, ◌∙◌, ap₂, true, false, not, List, [], ◌∷◌, map, ℕ, suc, eqb, ltb, arith}
-use Rattle.basics.specs.Basics.{if◌then◌else◌, paired, keep, is_in, any, distinct}
+use Rattle.basics.specs.Basics.{if'◌then◌else◌, paired, keep, is_in, any, distinct}
 use Rattle.basics.proofs.Facts.{by, and_true, lie, AllOf}
 use Rattle.block_forms.specs.Tuple.{Owner, committed, tentative}
 use Rattle.image_rows.specs.Rows.{Row, is_lower, follows, number, owner_after, starts_well, is_at}
@@ -27,7 +27,7 @@ abbrev First : Row → Row → Type 0
 First r s = With s r ≡ false → s.1.mark ≡ false
 
 follows_split : (r s : Row) → follows r s ≡ true → Before r s × Chain r s × First r s
-unfolding follows if◌then◌else◌
+unfolding follows if'◌then◌else◌
 follows_split r s h =
     by (With s r)
     (λ w. let q = and_true (ltb r.1.number s.1.number) (owner_after r.1.owner s.1.owner) (rw w at h) in
@@ -122,7 +122,7 @@ before_lower r s h w =
     (λ l. let f : r.1.key ≡ s.1.key = omega (arith, h'.0, leb-false (suc r.1.key) s.1.key l) in lie (sym w ∙ at_join s.0 s.1.key r e f)))
 
 pub follows_join : (r s : Row) → Before r s → Chain r s → First r s → follows r s ≡ true
-unfolding follows if◌then◌else◌
+unfolding follows if'◌then◌else◌
 follows_join r s b c f =
     by (With s r)
     (λ w. let e = at_split s.0 s.1.key r w in

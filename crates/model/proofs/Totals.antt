@@ -1,6 +1,6 @@
 -- A total over the pages, to which a fresh page adds nothing and a frozen page the same whatever its tuples, is not raised by the rules.
 use Rattle.basics.proofs.Kit.{◌≡◌, Bool, true, false, some, none, Option, List, [], ◌∷◌, map, ℕ, ◌+◌, ◌≤◌, arith}
-use Rattle.basics.specs.Basics.{if◌then◌else◌, sum, any}
+use Rattle.basics.specs.Basics.{if'◌then◌else◌, sum, any}
 use Rattle.basics.proofs.Facts.{by}
 use Rattle.basics.proofs.Elements.{sum_append}
 use Rattle.model.specs.State.{Page, Held}
@@ -42,7 +42,7 @@ module _ (w : Page → ℕ) (w-fresh : (t : ℕ) (ts : List Held) → w (fresh t
   sum_thaw b more ps c = let l = sum_around is_frozen (thaw_on b) more on none ps in omega arith
     where
       on : (o : Option Page) (p : Page) (ps : List Page) → sum w (thaw_on b o p ps) ≤ sum w (list_of o) + (w p + sum w ps) + more
-      on o p ps = unfold thaw_on if◌then◌else◌ sum in
+      on o p ps = unfold thaw_on if'◌then◌else◌ sum in
           by (any (λ x. is_pending x.pending) p.tuples)
           (λ h. let hs = map without_pending (live p.tuples) in let tss = split_all hs in
           let l = moves_settle Less sum_moves (map (fresh p.table) tss) (all_come Less sum_moves p.table tss) o (fresh p.table hs) ps in

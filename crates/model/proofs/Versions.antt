@@ -1,6 +1,6 @@
 -- The versions of a key on a well-formed store, and an insert behind the transaction's own delete mark.
 use Rattle.basics.proofs.Kit.{◌≡◌, refl, sym, ap, ◌∙◌, true, false, not, ◌&&◌, some, List, ℕ, eqb, length}
-use Rattle.basics.specs.Basics.{if◌then◌else◌, any, is_some, keep, last}
+use Rattle.basics.specs.Basics.{if'◌then◌else◌, any, is_some, keep, last}
 use Rattle.basics.proofs.Facts.{AllOf, by, lie}
 use Rattle.block_forms.specs.Tuple.{Owner, committed, tentative, is_tentative}
 use Rattle.image_rows.specs.Rows.{Row, is_at, is_own, is_by, follows}
@@ -51,7 +51,7 @@ module _ (s : Store) (v : Valid s) (t k : ℕ) where
     none_foreign = any_off _ (versions t k s.pages) (all_map _ _ (λ q m. not_foreign q m q.1.owner refl) (versions t k s.pages) at_key)
 
     not_seen : r.1.mark ≡ true → is_some (seen tx t k s) ≡ false
-    unfolding seen seen_of if◌then◌else◌ is_some
+    unfolding seen seen_of if'◌then◌else◌ is_some
     not_seen h = rw (newest, seen_of) (rw h)
 
 pub version_order : VersionOrder

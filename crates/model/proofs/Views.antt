@@ -1,7 +1,7 @@
 -- Images as views, that is what each block is: recovery, a cut and the claim on views, and what is said of every block written.
 use Rattle.block_forms.specs.Limits.{block_limit}
 use Rattle.basics.proofs.Kit.{◌≡◌, false, List, [], ◌∷◌, ℕ, ◌≤◌, ◌<◌, eqb}
-use Rattle.basics.specs.Basics.{if◌then◌else◌}
+use Rattle.basics.specs.Basics.{if'◌then◌else◌}
 use Rattle.basics.proofs.Facts.{AllOf}
 use Rattle.block_forms.specs.Block.{Block, malformed, as_header, InRange}
 use Rattle.block_forms.specs.declared.Header.{Header}
@@ -15,7 +15,7 @@ use Rattle.model.specs.CrashRecovery.{Logged, is_header, landed, log, Same}
 
 -- block b of a view exchanged
 unfoldable pub put : View → ℕ → Block → View
-put v b x i = if eqb b i then x else v i
+put v b x i = if' eqb b i then x else v i
 
 -- ---- recovery, with memory enough
 

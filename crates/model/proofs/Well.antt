@@ -1,7 +1,7 @@
 -- A store is well formed exactly if it has the invariants; so a store made or recovered is, and every call keeps it.
 use Rattle.block_forms.specs.Limits.{most_transaction, record_space}
 use Rattle.basics.proofs.Kit.{◌≡◌, refl, sym, ◌∙◌, subst, Bool, true, false, ◌||◌, List, [], ◌∷◌, map, ℕ, suc, ◌+◌, ◌≤◌, ◌<◌, ◌-◌, leb, eqb, ltb, length, length-map, arith}
-use Rattle.basics.specs.Basics.{all, paired, any, how_many, if◌then◌else◌, sum, every, is_in, distinct, is_empty}
+use Rattle.basics.specs.Basics.{all, paired, any, how_many, if'◌then◌else◌, sum, every, is_in, distinct, is_empty}
 use Rattle.basics.proofs.Facts.{by, and_true, AllOf, lie, or_else}
 use Rattle.block_forms.specs.Tuple.{Fits, AllFit, Tuple, size, Owner, committed, tentative}
 use Rattle.image_rows.specs.Rows.{Row, is_lower, is_at, number, rows_of, is_below}
@@ -127,12 +127,12 @@ small_held (h ∷ hs) a = let o = owner_size_lem h.tuple.owner in (omega (arith,
 -- ---- frozen pages
 
 pub many_frozen : (ps : List Page) → how_many is_frozen ps ≡ length (images ps)
-unfolding how_many is_frozen images if◌then◌else◌
+unfolding how_many is_frozen images if'◌then◌else◌
 many_frozen [] = refl
 many_frozen (p ∷ ps) = by p.frozen (λ h. rw (h, many_frozen ps)) (λ h. rw (h, many_frozen ps))
 
 no_images : (ps : List Page) → any is_frozen ps ≡ false → images ps ≡ []
-unfolding any is_frozen images if◌then◌else◌
+unfolding any is_frozen images if'◌then◌else◌
 no_images [] h = refl
 no_images (p ∷ ps) h = by p.frozen (λ k. lie (sym (rw (k, any) at h))) (λ k. rw k (no_images ps (rw (k, any) at h)))
 
@@ -141,7 +141,7 @@ unfolding any is_frozen
 none_frozen ps e = any_off is_frozen ps (unfold is_frozen in all_free ps e)
 
 in_block_many : (b : ℕ) (ps : List Page) → how_many (λ p. eqb b p.block) ps ≡ sum (in_block b) ps
-unfolding how_many sum in_block if◌then◌else◌
+unfolding how_many sum in_block if'◌then◌else◌
 in_block_many b [] = refl
 in_block_many b (p ∷ ps) = let e = in_block_many b ps in by (eqb b p.block) (λ k. rw k (omega arith)) (λ k. rw k (omega arith))
 
@@ -156,10 +156,10 @@ unfolding frozen_ok every
 frozen_true p d w = rw (d, nonempty (shown p.tuples) w.1, le_true (sum size (shown p.tuples)) record_space w.0)
 
 page_true : (p : Page) → p.table ≤ 7 → (p.frozen ≡ true → is_dirty p ≡ true) → PageOk p → page_well p ≡ true
-unfolding page_well if◌then◌else◌
+unfolding page_well if'◌then◌else◌
 page_true p t d o =
-    by p.frozen (λ h. and_both (le_true p.table 7 t) (subst (λ b. (if b then frozen_ok p else settled_ok p.tuples) ≡ true) (sym h) (frozen_true p (d h) (o.2 h))))
-    (λ h. and_both (le_true p.table 7 t) (subst (λ b. (if b then frozen_ok p else settled_ok p.tuples) ≡ true) (sym h) (settled_true p.tuples (o.1 h))))
+    by p.frozen (λ h. and_both (le_true p.table 7 t) (subst (λ b. (if' b then frozen_ok p else settled_ok p.tuples) ≡ true) (sym h) (frozen_true p (d h) (o.2 h))))
+    (λ h. and_both (le_true p.table 7 t) (subst (λ b. (if' b then frozen_ok p else settled_ok p.tuples) ≡ true) (sym h) (settled_true p.tuples (o.1 h))))
 
 dirty_or_true : (f : ℕ → Bool) (p : Page) → (is_dirty p ≡ false → f p.block ≡ true) → dirty_or f p ≡ true
 unfolding dirty_or
@@ -278,13 +278,13 @@ record Page' (p : Page) : Type 0 where
   icy : p.frozen ≡ true → frozen_ok p ≡ true
 
 true_page : (p : Page) → page_well p ≡ true → Page' p
-unfolding page_well if◌then◌else◌
+unfolding page_well if'◌then◌else◌
 true_page p h =
-    let q = and_true (leb p.table 7) (if p.frozen then frozen_ok p else settled_ok p.tuples) h in
+    let q = and_true (leb p.table 7) (if' p.frozen then frozen_ok p else settled_ok p.tuples) h in
     record {
       low = leb-true p.table 7 q.0;
-      still = λ e. subst (λ b. (if b then frozen_ok p else settled_ok p.tuples) ≡ true) e q.1;
-      icy = λ e. subst (λ b. (if b then frozen_ok p else settled_ok p.tuples) ≡ true) e q.1;
+      still = λ e. subst (λ b. (if' b then frozen_ok p else settled_ok p.tuples) ≡ true) e q.1;
+      icy = λ e. subst (λ b. (if' b then frozen_ok p else settled_ok p.tuples) ≡ true) e q.1;
     }
 
 true_owner : (os : List ℕ) (o : Owner) → owner_in os o ≡ true → Opened os o

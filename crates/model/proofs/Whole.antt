@@ -1,6 +1,6 @@
 -- The invariant makes an idle store ready for a checkpoint, and a recovered store has it.
 use Rattle.basics.proofs.Kit.{◌≡◌, refl, sym, ap, ◌∙◌, subst, true, false, List, [], ◌∷◌, map, ℕ, suc, ◌+◌, ◌≤◌, ◌<◌, leb, length, length-append, length-map, arith}
-use Rattle.basics.specs.Basics.{if◌then◌else◌, all, is_empty, any, is_in, every, distinct, sum, paired, how_many}
+use Rattle.basics.specs.Basics.{if'◌then◌else◌, all, is_empty, any, is_in, every, distinct, sum, paired, how_many}
 use Rattle.basics.proofs.Facts.{AllOf, lie, by, clash}
 use Rattle.block_forms.specs.Block.{PageFits}
 use Rattle.block_forms.specs.Limits.{record_space, most_number}
@@ -35,7 +35,7 @@ use Rattle.model.proofs.Shown.{bare, shown_without_pending}
 -- ---- nothing pending: what is held is live
 
 live_bare : (ts : List Held) → AllOf NothingPending ts → live ts ≡ bare ts
-unfolding live if◌then◌else◌ applied is_removing is_committing
+unfolding live if'◌then◌else◌ applied is_removing is_committing
 live_bare [] a = refl
 live_bare (x ∷ xs) a = rw (a.0.1, live_bare xs a.1)
 
@@ -145,7 +145,7 @@ loaded_ok p t =
     (small (map without_pending p.tuples) c, λ h. (c, omega (arith, t.2), omega (arith, t.3)), λ h. lie h)
 
 images_loaded : (ps : List StoredPage) → images (map loaded ps) ≡ []
-unfolding images loaded if◌then◌else◌
+unfolding images loaded if'◌then◌else◌
 images_loaded [] = refl
 images_loaded (p ∷ ps) = images_loaded ps
 

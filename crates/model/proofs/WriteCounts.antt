@@ -1,7 +1,7 @@
 -- A transaction's live rows are as many as the writes accepted since it opened: the count is kept from the calls and answers alone.
 use Rattle.block_forms.specs.Limits.{most_statement}
 use Rattle.basics.proofs.Kit.{◌≡◌, refl, sym, ap, ◌∙◌, Bool, true, false, not, List, [], ◌∷◌, ℕ, suc, ◌≤◌, min, eqb, ltb, length, arith, min-eq_left}
-use Rattle.basics.specs.Basics.{if◌then◌else◌, how_many, any, first, is_in}
+use Rattle.basics.specs.Basics.{if'◌then◌else◌, how_many, any, first, is_in}
 use Rattle.basics.proofs.Facts.{lie, by, AllOf, by-option, and_true}
 use Rattle.block_forms.specs.Tuple.{tentative, committed, Owner}
 use Rattle.image_rows.specs.Rows.{is_own, is_by, Row}
@@ -29,10 +29,10 @@ use Rattle.model.proofs.Inserted.{insert_row, place_rows, many_inserted}
 
 -- c: how many tuples transaction u had written before the call
 unfoldable pub wrote : ℕ → ℕ → ℕ → ℕ
-wrote u tx c = if eqb tx u then suc c else c
+wrote u tx c = if' eqb tx u then suc c else c
 
 unfoldable pub closed : ℕ → ℕ → ℕ → ℕ
-closed u tx c = if eqb tx u then 0 else c
+closed u tx c = if' eqb tx u then 0 else c
 
 unfoldable pub noted : Effect → ℕ → ℕ → ℕ
 noted no_effect u c = c
@@ -42,7 +42,7 @@ noted (commit_of tx) u c = closed u tx c
 noted (abort_of tx) u c = closed u tx c
 
 unfoldable pub tally : Effect → Answer → ℕ → ℕ → ℕ
-tally c a u n = if accepted a then noted c u n else n
+tally c a u n = if' accepted a then noted c u n else n
 
 -- a transaction's live rows
 unfoldable pub own : ℕ → Store → ℕ
@@ -66,7 +66,7 @@ written_own : (s : Store) → Valid s → (tx t k : ℕ) (bs : List ℕ) (m : Bo
 unfolding own wrote
 written_own s v tx t k bs m u =
     ap (how_many (is_own u)) (written_rows s v tx t k bs m) ∙ many_inserted (is_own u) (t, new_tuple tx k bs m s) (rows s.pages)
-    ∙ ap (λ b. if b then suc (how_many (is_own u) (rows s.pages)) else how_many (is_own u) (rows s.pages)) (own_new u tx k bs m t s)
+    ∙ ap (λ b. if' b then suc (how_many (is_own u) (rows s.pages)) else how_many (is_own u) (rows s.pages)) (own_new u tx k bs m t s)
 
 -- ---- closing
 
@@ -89,7 +89,7 @@ module _ (tx : ℕ) (rs : List Row) (F : Row → List Row)
       ∙ sym (many_none (is_own u) (r ∷ []) (h, tt)))
 
   closed_own : (u : ℕ) → how_many (is_own u) (gather F rs) ≡ closed u tx (how_many (is_own u) rs)
-  unfolding closed if◌then◌else◌
+  unfolding closed if'◌then◌else◌
   closed_own u =
       by (eqb tx u)
       (λ e. let q = eqb-true tx u e in rw e (many_none (is_own u) (gather F rs)
@@ -114,14 +114,14 @@ unfolding store_page made with_progress
 page_rows n es ds p s v = (thaw_rows (allocate s) s.pages v.pages).1
 
 step_rows : (s : Store) → Valid s → rows (step_at s.checkpoint s).store.pages ≡ rows s.pages
-unfolding step_at step_of gives if◌then◌else◌ store_directory store_header made with_progress
+unfolding step_at step_of gives if'◌then◌else◌ store_directory store_header made with_progress
 step_rows s v = go s.checkpoint
   where
     go : (c : Checkpoint) → rows (step_at c s).store.pages ≡ rows s.pages
     go idle = refl
     go (running n es ds) =
         by-option (first is_frozen s.pages)
-        (λ f. rw (f, step_of) (by (ltb (length ds) (directories_for (length es))) (λ k. rw (k, if◌then◌else◌)) (λ k. rw (k, if◌then◌else◌))))
+        (λ f. rw (f, step_of) (by (ltb (length ds) (directories_for (length es))) (λ k. rw (k, if'◌then◌else◌)) (λ k. rw (k, if'◌then◌else◌))))
         (λ p f. rw (f, step_of) (page_rows n es ds p s v))
 
 -- the rows of s, step by step
@@ -153,7 +153,7 @@ aborted_own tx s v u =
     ap (how_many (is_own u)) (aborted_rows tx s v) ∙ closed_own tx rs (after_abort tx) (abort_comes tx os rs v.sees d) (abort_stays tx os rs v.sees d) u
 
 does_tally : (c : TransactionCall) (s : Store) (o : Outcome) → Does c s o → Valid s → Tallies (effect c) s o
-unfolding tally noted accepted if◌then◌else◌ gives changed own with_tuple
+unfolding tally noted accepted if'◌then◌else◌ gives changed own with_tuple
 does_tally c s o (refuses n) v u = refl
 does_tally c s o (answers a e h) v u = rw (h, e)
 does_tally c s o (starts tx e l i f) v u = rw e
@@ -163,7 +163,7 @@ does_tally c s o (undoes tx e) v u = rw e (aborted_own tx s v u)
 
 -- a checkpoint leaves the rows and counts nothing
 stays_tally : (s : Store) (o : Outcome) → rows o.store.pages ≡ rows s.pages → Tallies no_effect s o
-unfolding tally noted if◌then◌else◌ own
+unfolding tally noted if'◌then◌else◌ own
 stays_tally s o r u = by (accepted o.answer) (λ h. rw h (ap (how_many (is_own u)) r)) (λ h. rw h (ap (how_many (is_own u)) r))
 
 -- every call counts as it answers
@@ -220,10 +220,10 @@ counted_written s v c tx t k bs m u i =
     (λ e. count_other tx u s.active e ∙ own_count s c u j ∙ sym (wrote_other u tx (own u s) e) ∙ sym o)
   where
     wrote_own : (u tx n : ℕ) → eqb tx u ≡ true → wrote u tx n ≡ suc n
-    wrote_own u tx n e = unfold wrote if◌then◌else◌ in rw e
+    wrote_own u tx n e = unfold wrote if'◌then◌else◌ in rw e
 
     wrote_other : (u tx n : ℕ) → eqb tx u ≡ false → wrote u tx n ≡ n
-    wrote_other u tx n e = unfold wrote if◌then◌else◌ in rw e
+    wrote_other u tx n e = unfold wrote if'◌then◌else◌ in rw e
 
 -- u is open without tx: it is another transaction, and is open
 stays_open : (tx u : ℕ) (os : List Active) → is_in u (open_numbers (without tx os)) ≡ true → (eqb tx u ≡ false) × (is_in u (open_numbers os) ≡ true)
@@ -241,7 +241,7 @@ counted_closed tx s ps own_after c u i =
     count_without tx u s.active q.0 ∙ own_count s c u q.1 ∙ sym (closed_other u tx (own u s) q.0) ∙ sym (own_after u)
   where
     closed_other : (u tx n : ℕ) → eqb tx u ≡ false → closed u tx n ≡ n
-    closed_other u tx n e = unfold closed if◌then◌else◌ in rw e
+    closed_other u tx n e = unfold closed if'◌then◌else◌ in rw e
 
 pub counted_step : (s : Store) → Valid s → Counted s → Counted (step_at s.checkpoint s).store
 counted_step s v c = counted_rows s (step_at s.checkpoint s).store (step_active s) (step_rows s v) c
@@ -272,7 +272,7 @@ abbrev Right : (ℕ → ℕ) → List ℕ → Type 0
 Right n w = (u : ℕ) → is_in u w ≡ ltb 0 (n u)
 
 right_wrote : (tx : ℕ) (n : ℕ → ℕ) (w : List ℕ) → Right n w → Right (λ u. wrote u tx (n u)) (with_writer tx w)
-unfolding wrote if◌then◌else◌ with_writer
+unfolding wrote if'◌then◌else◌ with_writer
 right_wrote tx n w r u =
     by (eqb tx u)
     (λ e. let q = eqb-true tx u e in
@@ -281,7 +281,7 @@ right_wrote tx n w r u =
     (λ e. by (is_in tx w) (λ k. rw (e, k) (r u)) (λ k. rw (e, k) (in_past u tx w (eqb_sym tx u e) ∙ r u)))
 
 right_closed : (tx : ℕ) (n : ℕ → ℕ) (w : List ℕ) → Right n w → Right (λ u. closed u tx (n u)) (others tx w)
-unfolding closed if◌then◌else◌ others
+unfolding closed if'◌then◌else◌ others
 right_closed tx n w r u =
     let k = in_keep u (λ o. not (eqb o tx)) w in
     by (eqb tx u) (λ e. let q : eqb u tx ≡ true = ap (λ z. eqb z tx) (sym (eqb-true tx u e)) ∙ eqb_self tx in rw e (k ∙ rw q (and_no (is_in u w))))
@@ -296,16 +296,16 @@ right_noted (commit_of tx) n w r = right_closed tx n w r
 right_noted (abort_of tx) n w r = right_closed tx n w r
 
 tally_yes : (c : Effect) (a : Answer) (u n : ℕ) → accepted a ≡ true → tally c a u n ≡ noted c u n
-unfolding tally if◌then◌else◌
+unfolding tally if'◌then◌else◌
 tally_yes c a u n h = rw h
 
 tally_no : (c : Effect) (a : Answer) (u n : ℕ) → accepted a ≡ false → tally c a u n ≡ n
-unfolding tally if◌then◌else◌
+unfolding tally if'◌then◌else◌
 tally_no c a u n h = rw h
 
 right_step : (c : Call) (s : Store) → Valid s → (w : List ℕ) → Right (λ u. own u s) w
-    → Right (λ u. own u (call c s).store) (if accepted (call c s).answer then writers (effect_of c) w else w)
-unfolding if◌then◌else◌
+    → Right (λ u. own u (call c s).store) (if' accepted (call c s).answer then writers (effect_of c) w else w)
+unfolding if'◌then◌else◌
 right_step c s v w r u =
     by (accepted (call c s).answer)
     (λ h. rw h (right_noted (effect_of c) (λ u. own u s) w r u ∙ ap (ltb 0) (sym (tallies c s v u ∙ tally_yes (effect_of c) (call c s).answer u (own u s) h))))
@@ -315,7 +315,7 @@ right_run : (cs : List Call) (s : Store) → Valid s → Counted s → (w : List
 unfolding after_calls had_written
 right_run [] s v c₀ w r = r
 right_run (c ∷ cs) s v c₀ w r = right_run cs (call c s).store (keeps c s v c₀) (keeps_count c s v c₀)
-    (if accepted (call c s).answer then writers (effect_of c) w else w) (right_step c s v w r)
+    (if' accepted (call c s).answer then writers (effect_of c) w else w) (right_step c s v w r)
 
 own_any : (u : ℕ) (s : Store) → any (is_own u) (rows s.pages) ≡ ltb 0 (own u s)
 unfolding own

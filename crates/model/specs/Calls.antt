@@ -1,6 +1,6 @@
 -- The calls together, in two levels: those of transactions, and begin, step and run beside them.
 use Rattle.std.specs.Prelude.{ℕ, ◌<◌, ◌≡◌, Bool, true, false, not, List, [], ◌∷◌, eqb}
-use Rattle.basics.specs.Basics.{if◌then◌else◌, is_in, keep}
+use Rattle.basics.specs.Basics.{if'◌then◌else◌, is_in, keep}
 use Rattle.block_forms.specs.Tuple.{AllBytes}
 use Rattle.model.specs.State.{Store, Answer, refused, done, count, filled, Outcome}
 use Rattle.model.specs.Transactions.{gives, open_call, commit_call, abort_call, insert_call, replace_call, delete_call, read_call, list_call}
@@ -123,7 +123,7 @@ accepted (filled n bs) = true
 -- the call, where there is room for its record in a log; else 29, after all its other tests
 abbrev pub with_room : Bool → (Store → Outcome) → Store → Outcome
 with_room true f s = f s
-with_room false f s = if accepted (f s).answer then gives (refused 29) s else f s
+with_room false f s = if' accepted (f s).answer then gives (refused 29) s else f s
 
 -- the store after a list of calls
 unfoldable pub after_calls : List Call → Store → Store
@@ -138,7 +138,7 @@ others tx ws = keep (λ w. not (eqb w tx)) ws
 
 -- the transactions ws and transaction tx
 unfoldable pub with_writer : ℕ → List ℕ → List ℕ
-with_writer tx ws = if is_in tx ws then ws else tx ∷ ws
+with_writer tx ws = if' is_in tx ws then ws else tx ∷ ws
 
 -- the open transactions that had written (with an accepted insert, replace or delete since they opened) after an accepted call; ws had before
 unfoldable pub writers : Effect → List ℕ → List ℕ
@@ -151,7 +151,7 @@ writers (abort_of tx) ws = others tx ws
 -- the open transactions that had written after a list of calls, of which ws had before
 unfoldable pub had_written : List Call → Store → List ℕ → List ℕ
 had_written [] s ws = ws
-had_written (c ∷ cs) s ws = let o = call c s in had_written cs o.store (if accepted o.answer then writers (effect_of c) ws else ws)
+had_written (c ∷ cs) s ws = let o = call c s in had_written cs o.store (if' accepted o.answer then writers (effect_of c) ws else ws)
 
 -- ---- what a call leaves
 

@@ -1,7 +1,7 @@
 -- Begin, step and run.
 use Rattle.std.specs.Prelude.{ℕ, zero, suc, ◌+◌, ◌-◌, ◌*◌, min, Bool, true, false, not, ◌||◌, List, [], ◌∷◌, ◌++◌, map, length, take, drop, get_or, leb, ltb, eqb}
 use Rattle.std.proofs.Math.Option.{Option, none, some}
-use Rattle.basics.specs.Basics.{if◌then◌else◌, how_many, first, is_in, from}
+use Rattle.basics.specs.Basics.{if'◌then◌else◌, how_many, first, is_in, from}
 use Rattle.block_forms.specs.Limits.{record_space, entries_per_block, most_number, block_size}
 use Rattle.block_forms.specs.Tuple.{Tuple, sizes}
 use Rattle.block_forms.specs.Block.{Block, header, page, directory}
@@ -80,11 +80,11 @@ made b x s = record { answer = count (left s); store = s; writes = record { at =
 -- the first 0 of the list becomes b
 unfoldable pub fill : ℕ → List ℕ → List ℕ
 fill b [] = []
-fill b (e ∷ es) = if eqb e 0 then b ∷ es else e ∷ fill b es
+fill b (e ∷ es) = if' eqb e 0 then b ∷ es else e ∷ fill b es
 
 -- what a block has room for. (All that a frozen page shows: it fitted when it was frozen.)
 unfoldable pub storable : List Tuple → List Tuple
-storable ts = if leb (sizes ts) record_space then ts else []
+storable ts = if' leb (sizes ts) record_space then ts else []
 
 -- the store after a page's store in block b: the page is thawed, and the directory will name b
 abbrev pub page_stored : ℕ → ℕ → List ℕ → List ℕ → Store → Store
@@ -137,7 +137,7 @@ store_header n es ds s = made 0 (header (header_for s (suc s.level) n (length es
 -- the frozen pages in list order, then the directory, then the header
 unfoldable pub step_of : Option Page → ℕ → List ℕ → List ℕ → Store → Outcome
 step_of (some p) n es ds s = store_page n es ds p s
-step_of none n es ds s = if ltb (length ds) (directories_for (length es)) then store_directory n es ds s else store_header n es ds s
+step_of none n es ds s = if' ltb (length ds) (directories_for (length es)) then store_directory n es ds s else store_header n es ds s
 
 -- 18 none running
 unfoldable pub step_at : Checkpoint → Store → Outcome

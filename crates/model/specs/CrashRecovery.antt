@@ -1,7 +1,7 @@
 -- Crash recovery (document 01: the quoted line): wherever power fails, recovery gives what the uncut run had just before the checkpoint whose header landed last.
 use Rattle.std.specs.Prelude.{ℕ, ◌≤◌, ◌≡◌, Bool, false, ◌&&◌, List, [], ◌∷◌, ◌++◌, map, length, eqb}
 use Rattle.block_forms.specs.Limits.{block_size}
-use Rattle.basics.specs.Basics.{if◌then◌else◌, how_many, is_in}
+use Rattle.basics.specs.Basics.{if'◌then◌else◌, how_many, is_in}
 use Rattle.block_forms.specs.Tuple.{Tuple, AllBytes}
 use Rattle.image.specs.Stages.{holds}
 use Rattle.model.specs.State.{Page, Store, Write, stored_bytes}
@@ -32,7 +32,7 @@ unfoldable pub log : List Call → List Call → Store → List Call → List Lo
 log past base s [] = []
 log past base s (c ∷ cs) =
     let o = call c s in
-    let base' = if is_begin c && accepted o.answer then past else base in
+    let base' = if' is_begin c && accepted o.answer then past else base in
     map (tag base') o.writes ++ log (past ++ c ∷ []) base' o.store cs
 
 -- ---- the cut
@@ -43,7 +43,7 @@ is_header w = eqb w.write.at 0
 
 -- the calls before the begin of the checkpoint whose header landed last: those of w if it stores a header, else base
 unfoldable pub landed : Logged → List Call → List Call
-landed w base = if is_header w then w.before else base
+landed w base = if' is_header w then w.before else base
 
 -- the image with the block that w stores
 unfoldable pub image_with : List ℕ → Logged → List ℕ
@@ -71,7 +71,7 @@ content p = (p.table, map (λ h. h.tuple) p.tuples)
 pub record Same (r s : Store) (calls : List Call) : Type 0 where
   pub pages : map content r.pages ≡ map content (after_calls calls s).pages
   pub next : r.next ≡ (after_calls calls s).next
-  pub writers : (tx : ℕ) → how_many (eqb tx) (open_numbers r.active) ≡ (if is_in tx (had_written calls s (open_numbers s.active)) then 1 else 0)
+  pub writers : (tx : ℕ) → how_many (eqb tx) (open_numbers r.active) ≡ (if' is_in tx (had_written calls s (open_numbers s.active)) then 1 else 0)
 
 -- From any start, for every list of calls and every cut of its stores, recovery with memory enough is accepted and gives what the
 -- run of the calls before the begin of the last landed checkpoint had.

@@ -1,7 +1,7 @@
 -- Bookings that cross an interval of minutes: the keys of those that a transaction sees in a table.
 use Rattle.std.specs.Prelude.{ℕ, ◌+◌, ◌/◌, ◌%◌, Bool, List, [], ◌∷◌, ◌++◌, length, leb, ltb, eqb}
 use Rattle.std.proofs.Math.Option.{Option, none, some}
-use Rattle.basics.specs.Basics.{if◌then◌else◌, every, keep}
+use Rattle.basics.specs.Basics.{if'◌then◌else◌, every, keep}
 use Rattle.calendar.specs.Calendar.{minutes}
 use Rattle.block_forms.specs.Tuple.{Tuple}
 use Rattle.image_rows.specs.Rows.{Row}
@@ -26,7 +26,7 @@ rows_of_table t run = keep (λ r. eqb r.0 t) (rows_in run)
 -- the key of the version that is seen, if that crosses
 unfoldable pub key_if : ℕ → ℕ → Option Row → List ℕ
 key_if first end none = []
-key_if first end (some r) = if crosses first end r.1 then r.1.key ∷ [] else []
+key_if first end (some r) = if' crosses first end r.1 then r.1.key ∷ [] else []
 
 -- the key of a run of table t of which transaction tx sees a version that crosses
 unfoldable pub key_of_run : ℕ → ℕ → ℕ → ℕ → List Placed → List ℕ

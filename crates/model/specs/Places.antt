@@ -1,7 +1,7 @@
 -- Laws of commit and abort by place: what an operation at a row does to any pages, and that on a well-formed store the runs are the keys.
 use Rattle.std.specs.Prelude.{ℕ, zero, suc, ◌+◌, ◌<◌, ◌≤◌, ◌≡◌, Bool, true, false, not, ◌||◌, List, [], ◌∷◌, ◌++◌, map, length, take, drop, get_or, set}
 use Rattle.std.proofs.Math.Option.{Option, some}
-use Rattle.basics.specs.Basics.{if◌then◌else◌}
+use Rattle.basics.specs.Basics.{if'◌then◌else◌}
 use Rattle.model.specs.State.{removing, committing, Held, Page, Store}
 use Rattle.model.specs.Rules.{list_of, is_adding, is_removing, with_pending, as_committed}
 use Rattle.model.specs.Sight.{versions}
@@ -54,8 +54,8 @@ LastStays =
 -- the tuple after its commit: on a frozen page as `pend_commit` says, else committed
 unfoldable pub committed_tuple : Bool → Held → Held
 committed_tuple frozen h =
-    if not frozen || is_adding h.pending then record { tuple = as_committed h.tuple; pending = h.pending }
-    else if is_removing h.pending then h
+    if' not frozen || is_adding h.pending then record { tuple = as_committed h.tuple; pending = h.pending }
+    else if' is_removing h.pending then h
     else with_pending committing h
 
 -- a commit changes its tuple alone

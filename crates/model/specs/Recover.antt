@@ -1,7 +1,7 @@
 -- Make and recover.
 use Rattle.std.specs.Prelude.{ℕ, ◌+◌, ◌*◌, ◌/◌, false, not, ◌||◌, List, [], ◌∷◌, ◌++◌, map, length, take, drop, ltb}
 use Rattle.block_forms.specs.Limits.{block_size}
-use Rattle.basics.specs.Basics.{if◌then◌else◌, how_many, is_in}
+use Rattle.basics.specs.Basics.{if'◌then◌else◌, how_many, is_in}
 use Rattle.block_forms.specs.Block.{header, encode_block}
 use Rattle.block_forms.specs.declared.Header.{Header}
 use Rattle.image_rows.specs.Rows.{Row, is_own, transactions}
@@ -35,9 +35,9 @@ fresh_store b n =
 -- 1 image not 2 to 4,096 whole blocks; 2 N not 1 to 1,024; 3 memory under 128·N + 1,024 bytes
 unfoldable pub make : ℕ → ℕ → ℕ → Stage Store
 make len m n =
-    if not (whole_blocks len) then refuses 1
-    else if ltb n 1 || ltb capacity_limit n then refuses 2
-    else if ltb m (memory_for n) then refuses 3
+    if' not (whole_blocks len) then refuses 1
+    else if' ltb n 1 || ltb capacity_limit n then refuses 2
+    else if' ltb m (memory_for n) then refuses 3
     else holds (fresh_store (len / block_size) n)
 
 -- make writes block 0 only
@@ -77,7 +77,7 @@ recover_pages h (holds ps) = holds (recovered_store h ps)
 -- 3 memory too short, between the header's test and the directory's
 unfoldable pub recover_below : ℕ → View → Stage Header → Stage Store
 recover_below m v (refuses n) = refuses n
-recover_below m v (holds h) = if ltb m (memory_for h.capacity) then refuses 3 else recover_pages h (pages_stage v h)
+recover_below m v (holds h) = if' ltb m (memory_for h.capacity) then refuses 3 else recover_pages h (pages_stage v h)
 
 -- 1; 22 header; 3; 23 directory; 24 page: with a memory of m bytes
 unfoldable pub recover : ℕ → List ℕ → Stage Store

@@ -2,7 +2,7 @@
 use Rattle.std.specs.Prelude.{ℕ, zero, suc, ◌+◌, ◌-◌, ◌*◌, Bool, true, false, not, ◌&&◌, List, [], ◌∷◌, ◌++◌, map, length, take, drop, leb, ltb, eqb}
 use Rattle.std.proofs.Math.Option
 use Rattle.std.proofs.Math.Option.{Option, none, some}
-use Rattle.basics.specs.Basics.{if◌then◌else◌, any, is_empty, sum}
+use Rattle.basics.specs.Basics.{if'◌then◌else◌, any, is_empty, sum}
 use Rattle.block_forms.specs.Limits.{record_space, join_sum}
 use Rattle.block_forms.specs.Tuple.{Tuple, committed, size}
 use Rattle.model.specs.State.{Pending, nothing, adding, committing, removing, Held, Page}
@@ -32,7 +32,7 @@ with_tuples p hs = record { table = p.table; block = p.block; frozen = p.frozen;
 -- how many leading tuples: the shortest run whose doubled size reaches the whole w; a is the size of those passed
 unfoldable pub lead : ℕ → ℕ → List Held → ℕ
 lead w a [] = 0
-lead w a (h ∷ hs) = if leb w (2 * (a + held_size h)) then 1 else suc (lead w (a + held_size h) hs)
+lead w a (h ∷ hs) = if' leb w (2 * (a + held_size h)) then 1 else suc (lead w (a + held_size h) hs)
 
 -- how many leading tuples the first part has
 unfoldable pub half : List Held → ℕ
@@ -40,7 +40,7 @@ half hs = lead (sum held_size hs) 0 hs
 
 -- tuples of more than 504 bytes are split in two
 unfoldable pub split_once : List Held → List (List Held)
-split_once hs = if fits hs then hs ∷ [] else take (half hs) hs ∷ drop (half hs) hs ∷ []
+split_once hs = if' fits hs then hs ∷ [] else take (half hs) hs ∷ drop (half hs) hs ∷ []
 
 -- each part that is still over 504 bytes is split again; the first number bounds how deep, and the number of tuples is enough
 unfoldable pub split_deep : ℕ → List Held → List (List Held)
@@ -57,15 +57,15 @@ split_all hs = split_deep (length hs) hs
 unfoldable pub after : Held → List Held → Option (List Held)
 after x [] = none
 after x (y ∷ ys) =
-    elim (after x ys) [ some zs ↦ some (y ∷ zs) | none ↦ if leb y.tuple.key x.tuple.key then some (y ∷ x ∷ ys) else none ]
+    elim (after x ys) [ some zs ↦ some (y ∷ zs) | none ↦ if' leb y.tuple.key x.tuple.key then some (y ∷ x ∷ ys) else none ]
 
 -- the page with one tuple more: a frozen page only takes it, another one changes and may be split
 unfoldable pub grown : Page → List Held → List Page
-grown p hs = if p.frozen then with_tuples p hs ∷ [] else map (fresh p.table) (split_once hs)
+grown p hs = if' p.frozen then with_tuples p hs ∷ [] else map (fresh p.table) (split_once hs)
 
 -- the tuple as it stands on this page: a pending add where the page is frozen
 unfoldable pub entering : Page → Tuple → Held
-entering p x = record { tuple = x; pending = if p.frozen then adding else nothing }
+entering p x = record { tuple = x; pending = if' p.frozen then adding else nothing }
 
 -- a tuple with nothing pending
 unfoldable pub without_pending : Tuple → Held
@@ -77,15 +77,15 @@ place_after t x [] = none
 place_after t x (p ∷ ps) =
     elim (place_after t x ps) [
       | some qs ↦ some (p ∷ qs)
-      | none ↦ if eqb p.table t then Option.map (λ hs. grown p hs ++ ps) (after (entering p x) p.tuples) else none
+      | none ↦ if' eqb p.table t then Option.map (λ hs. grown p hs ++ ps) (after (entering p x) p.tuples) else none
     ]
 
 -- else to the front of the first page; an empty table gets a new page
 unfoldable pub place_front : ℕ → Tuple → List Page → List Page
 place_front t x [] = fresh t (without_pending x ∷ []) ∷ []
 place_front t x (p ∷ ps) =
-    if ltb p.table t then p ∷ place_front t x ps
-    else if eqb p.table t then grown p (entering p x ∷ p.tuples) ++ ps
+    if' ltb p.table t then p ∷ place_front t x ps
+    else if' eqb p.table t then grown p (entering p x ∷ p.tuples) ++ ps
     else fresh t (without_pending x ∷ []) ∷ p ∷ ps
 
 -- a new tuple of table t
@@ -112,16 +112,16 @@ list_of (some p) = p ∷ []
 -- with its predecessor, else with its successor, else replaced by the pages of `rest`.
 unfoldable pub settle_next : List Page → Page → List Page → List Page
 settle_next rest p [] = rest
-settle_next rest p (q ∷ qs) = if joins p q then joined p q ∷ qs else rest ++ q ∷ qs
+settle_next rest p (q ∷ qs) = if' joins p q then joined p q ∷ qs else rest ++ q ∷ qs
 
 -- a page that is not empty
 unfoldable pub settle_full : List Page → Option Page → Page → List Page → List Page
 settle_full rest none p ps = settle_next rest p ps
-settle_full rest (some o) p ps = if joins o p then joined o p ∷ ps else o ∷ settle_next rest p ps
+settle_full rest (some o) p ps = if' joins o p then joined o p ∷ ps else o ∷ settle_next rest p ps
 
 -- a page after a removal or at its thaw
 unfoldable pub settle : List Page → Option Page → Page → List Page → List Page
-settle rest prev p ps = if is_empty p.tuples then list_of prev ++ ps else settle_full rest prev p ps
+settle rest prev p ps = if' is_empty p.tuples then list_of prev ++ ps else settle_full rest prev p ps
 
 -- f on the first page that passes the test, with the page before it and those after
 unfoldable pub around : (Page → Bool) → (Option Page → Page → List Page → List Page) → Option Page → List Page → List Page
@@ -172,7 +172,7 @@ remove_now h = []
 
 -- on a frozen page: a pending add is taken away, another becomes a pending remove, which replaces a pending commit
 unfoldable pub pend_remove : Held → List Held
-pend_remove h = if is_adding h.pending then [] else with_pending removing h ∷ []
+pend_remove h = if' is_adding h.pending then [] else with_pending removing h ∷ []
 
 -- a tuple that is committed, whatever is pending
 unfoldable pub commit_now : Held → List Held
@@ -181,8 +181,8 @@ commit_now h = record { tuple = as_committed h.tuple; pending = h.pending } ∷ 
 -- on a frozen page: a pending add is committed, another becomes a pending commit; one pending removal is left alone
 unfoldable pub pend_commit : Held → List Held
 pend_commit h =
-    if is_adding h.pending then commit_now h
-    else if is_removing h.pending then h ∷ []
+    if' is_adding h.pending then commit_now h
+    else if' is_removing h.pending then h ∷ []
     else with_pending committing h ∷ []
 
 -- the tuples with what g gives, none or one, in the place of tuple j
@@ -193,17 +193,17 @@ edit_at g (suc j) (h ∷ hs) = h ∷ edit_at g j hs
 
 -- the tuples of a frozen page after the removal of tuple j. (The last one stays: a frozen page has a tuple of its begin, so that it never is a pending add.)
 unfoldable pub pend_remove_at : ℕ → List Held → List Held
-pend_remove_at j hs = if is_empty (edit_at pend_remove j hs) then hs else edit_at pend_remove j hs
+pend_remove_at j hs = if' is_empty (edit_at pend_remove j hs) then hs else edit_at pend_remove j hs
 
 -- a frozen page notes the removal; another one changes directly, and is dropped or joined
 unfoldable pub remove_row_on : ℕ → Option Page → Page → List Page → List Page
 remove_row_on j prev p ps =
-    if p.frozen then list_of prev ++ with_tuples p (pend_remove_at j p.tuples) ∷ ps
+    if' p.frozen then list_of prev ++ with_tuples p (pend_remove_at j p.tuples) ∷ ps
     else (let q = fresh p.table (edit_at remove_now j p.tuples) in settle (q ∷ []) prev q ps)
 
 -- a page with tuple j committed: at once, or as a frozen page notes it
 unfoldable pub committed_at : ℕ → Page → Page
-committed_at j p = if p.frozen then with_tuples p (edit_at pend_commit j p.tuples) else fresh p.table (edit_at commit_now j p.tuples)
+committed_at j p = if' p.frozen then with_tuples p (edit_at pend_commit j p.tuples) else fresh p.table (edit_at commit_now j p.tuples)
 
 -- direct commit never joins
 unfoldable pub commit_row_on : ℕ → Option Page → Page → List Page → List Page
@@ -239,16 +239,16 @@ freeze p = record { table = p.table; block = p.block; frozen = is_dirty p; tuple
 -- what the checkpoint stores of a page: not the pending adds, and the others as they were
 unfoldable pub shown : List Held → List Tuple
 shown [] = []
-shown (h ∷ hs) = if is_adding h.pending then shown hs else h.tuple ∷ shown hs
+shown (h ∷ hs) = if' is_adding h.pending then shown hs else h.tuple ∷ shown hs
 
 -- the tuple with its pending operation taken as done
 unfoldable pub applied : Held → Tuple
-applied h = if is_committing h.pending then as_committed h.tuple else h.tuple
+applied h = if' is_committing h.pending then as_committed h.tuple else h.tuple
 
 -- the tuples with pending operations taken as done: those pending removal are gone
 unfoldable pub live : List Held → List Tuple
 live [] = []
-live (h ∷ hs) = if is_removing h.pending then live hs else applied h ∷ live hs
+live (h ∷ hs) = if' is_removing h.pending then live hs else applied h ∷ live hs
 
 -- a frozen page: begin has frozen it, and it is not stored yet
 unfoldable pub is_frozen : Page → Bool
@@ -257,7 +257,7 @@ is_frozen p = p.frozen
 -- the page, stored as block b, is thawed: its pending operations are applied, and if there were none, it is clean
 unfoldable pub thaw_on : ℕ → Option Page → Page → List Page → List Page
 thaw_on b prev p ps =
-    if any (λ h. is_pending h.pending) p.tuples
+    if' any (λ h. is_pending h.pending) p.tuples
     then (let hs = map without_pending (live p.tuples) in settle (map (fresh p.table) (split_all hs)) prev (fresh p.table hs) ps)
     else list_of prev ++ record { table = p.table; block = b; frozen = false; tuples = p.tuples } ∷ ps
 

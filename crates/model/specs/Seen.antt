@@ -1,7 +1,7 @@
 -- What a transaction sees after each call, on well-formed stores.
 use Rattle.std.specs.Prelude.{ℕ, ◌+◌, ◌≤◌, ◌<◌, ◌≡◌, Bool, true, false, ◌&&◌, List, [], ◌++◌, length, eqb, leb, ltb}
 use Rattle.std.proofs.Math.Option.{Option, none, some}
-use Rattle.basics.specs.Basics.{if◌then◌else◌, paired, how_many, first, last, is_in, sorted}
+use Rattle.basics.specs.Basics.{if'◌then◌else◌, paired, how_many, first, last, is_in, sorted}
 use Rattle.calendar.specs.Calendar.{minutes, rows_of, is_open}
 use Rattle.image_rows.specs.Rows.{Row, is_own}
 use Rattle.model.specs.State.{Store, refused, filled}
@@ -75,7 +75,7 @@ SeenAsBefore =
 
 -- what tx leaves of a key on which it has the newest version r: nothing if that is a delete mark, else it is committed
 unfoldable pub remains : Row → Option Row
-remains r = if r.1.mark then none else some (r.0, as_committed r.1)
+remains r = if' r.1.mark then none else some (r.0, as_committed r.1)
 
 -- after an accepted commit everybody sees the newest version that tx had of a key; a key that tx had not written is seen as before
 abbrev pub SeenAfterCommit : Type 0

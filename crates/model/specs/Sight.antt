@@ -1,7 +1,7 @@
 -- What transactions and refusal tests see: the rows with pending operations taken as done.
 use Rattle.std.specs.Prelude.{ℕ, Bool, not, ◌&&◌, List, [], ◌∷◌, ◌++◌, map}
 use Rattle.std.proofs.Math.Option.{Option, none, some}
-use Rattle.basics.specs.Basics.{if◌then◌else◌, keep, first, last}
+use Rattle.basics.specs.Basics.{if'◌then◌else◌, keep, first, last}
 use Rattle.block_forms.specs.Tuple.{is_tentative}
 use Rattle.image_rows.specs.Rows.{Row, rows_of, is_by, is_own, is_at}
 use Rattle.model.specs.State.{Page, Store}
@@ -31,7 +31,7 @@ versions t k ps = keep (is_at t k) (rows ps)
 
 -- of the versions of a key, the one that transaction tx sees: its own newest (a delete mark means absent), else the committed one
 unfoldable pub seen_of : ℕ → List Row → Option Row
-seen_of tx vs = elim (last (is_own tx) vs) [ some r ↦ if r.1.mark then none else some r | none ↦ first is_committed vs ]
+seen_of tx vs = elim (last (is_own tx) vs) [ some r ↦ if' r.1.mark then none else some r | none ↦ first is_committed vs ]
 
 -- the version of a key that transaction tx sees
 unfoldable pub seen : ℕ → ℕ → ℕ → Store → Option Row

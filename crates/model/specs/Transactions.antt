@@ -1,7 +1,7 @@
 -- Open, insert, replace, delete, read, list, commit, abort: each with its refusals in the order in which they are tested.
 use Rattle.std.specs.Prelude.{ℕ, suc, ◌-◌, ◌/◌, ◌%◌, min, Bool, true, false, not, List, [], ◌∷◌, ◌++◌, map, length, leb, ltb, eqb}
 use Rattle.std.proofs.Math.Option.{Option, none, some}
-use Rattle.basics.specs.Basics.{if◌then◌else◌, any, keep, last, is_some, is_in, sorted}
+use Rattle.basics.specs.Basics.{if'◌then◌else◌, any, keep, last, is_some, is_in, sorted}
 use Rattle.block_forms.specs.Limits.{payload_limit, most_number, most_statement, most_transaction}
 use Rattle.block_forms.specs.Tuple.{Tuple, tentative}
 use Rattle.image_rows.specs.Rows.{Row, is_own, is_at, open_limit}
@@ -23,7 +23,7 @@ gives a s = record { answer = a; store = s; writes = [] }
 -- the first test that holds refuses and changes nothing
 unfoldable pub unless : List Test → Store → Outcome → Outcome
 unless [] s o = o
-unless ((n when b) ∷ ts) s o = if b then gives (refused n) s else unless ts s o
+unless ((n when b) ∷ ts) s o = if' b then gives (refused n) s else unless ts s o
 
 -- the store with another next number, other pages, other open transactions
 unfoldable pub changed : Store → ℕ → List Page → List Active → Store
@@ -43,7 +43,7 @@ is_for tx o = eqb o.transaction tx
 -- how many tuples a transaction has written
 unfoldable pub written_by : ℕ → List Active → ℕ
 written_by tx [] = 0
-written_by tx (o ∷ os) = if is_for tx o then o.written else written_by tx os
+written_by tx (o ∷ os) = if' is_for tx o then o.written else written_by tx os
 
 -- an open transaction that has written one tuple more. (A count has 20 bits; no transaction has more tuples than a store holds.)
 unfoldable pub one_more : Active → Active
@@ -52,7 +52,7 @@ one_more o = record { transaction = o.transaction; written = min (suc o.written)
 -- transaction tx has written one tuple more
 unfoldable pub with_write : ℕ → List Active → List Active
 with_write tx [] = []
-with_write tx (o ∷ os) = if is_for tx o then one_more o ∷ os else o ∷ with_write tx os
+with_write tx (o ∷ os) = if' is_for tx o then one_more o ∷ os else o ∷ with_write tx os
 
 -- the open transactions without transaction tx
 unfoldable pub without : ℕ → List Active → List Active
@@ -212,7 +212,7 @@ each_run f (run ∷ rs) = f run ++ each_run f rs
 -- the live rows with their places: pending operations taken as done
 unfoldable pub live_of : List Placed → List (ℕ × Row)
 live_of [] = []
-live_of (x ∷ xs) = if is_removing x.1.1.pending then live_of xs else (x.0, (x.1.0, applied x.1.1)) ∷ live_of xs
+live_of (x ∷ xs) = if' is_removing x.1.1.pending then live_of xs else (x.0, (x.1.0, applied x.1.1)) ∷ live_of xs
 
 -- the same without their places
 abbrev pub rows_in : List Placed → List Row
@@ -238,7 +238,7 @@ remove_places (y ∷ ys) = remove_place y.0 ∷ remove_places ys
 unfoldable pub plan_newest : Option (ℕ × Row) → List (ℕ × Row) → List PlaceOp
 plan_newest none ys = []
 plan_newest (some x) ys =
-    if x.1.1.mark then remove_places ys else commit_place x.0 ∷ remove_places (keep (λ y. not (eqb y.0 x.0)) ys)
+    if' x.1.1.mark then remove_places ys else commit_place x.0 ∷ remove_places (keep (λ y. not (eqb y.0 x.0)) ys)
 
 -- the operations of a commit on one run
 unfoldable pub plan_run : ℕ → List Placed → List PlaceOp

@@ -1,7 +1,7 @@
 -- What every store of a run is, whatever was called: recovery's own tests, and what a running checkpoint needs. It is shown of
 -- stores made and recovered, and kept by every call.
 use Rattle.std.specs.Prelude.{ℕ, suc, ◌+◌, ◌-◌, ◌≤◌, ◌<◌, min, ◌≡◌, Bool, true, false, not, ◌&&◌, ◌||◌, List, [], ◌∷◌, ◌++◌, map, length, leb, ltb, eqb}
-use Rattle.basics.specs.Basics.{if◌then◌else◌, any, all, every, paired, how_many, is_empty, is_in, distinct}
+use Rattle.basics.specs.Basics.{if'◌then◌else◌, any, all, every, paired, how_many, is_empty, is_in, distinct}
 use Rattle.block_forms.specs.Limits.{record_space, most_number, block_limit, most_transaction}
 use Rattle.block_forms.specs.Tuple.{Owner, committed, tentative, AllFit, sizes}
 use Rattle.image_rows.specs.Rows.{Row, number, is_own, is_at, is_lower, follows, starts_well, is_below, rows_ok, open_limit}
@@ -37,7 +37,7 @@ frozen_ok p = every (is_dirty p ∷ not (is_empty (shown p.tuples)) ∷ leb (siz
 
 -- a page is of table 0 to 7
 unfoldable pub page_well : Page → Bool
-page_well p = leb p.table 7 && (if p.frozen then frozen_ok p else settled_ok p.tuples)
+page_well p = leb p.table 7 && (if' p.frozen then frozen_ok p else settled_ok p.tuples)
 
 -- a page is dirty, or its block passes the test
 unfoldable pub dirty_or : (ℕ → Bool) → Page → Bool

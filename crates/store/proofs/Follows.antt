@@ -1,7 +1,7 @@
 -- A call that does what its contract says follows the rules: in memory and image.
 use Rattle.block_forms.specs.Limits.{block_size}
 use Rattle.basics.proofs.Kit.{◌≡◌, refl, sym, ap, ◌∙◌, subst, false, some, none, Option, List, [], ◌∷◌, ℕ, ◌+◌, ◌*◌, eqb, ltb, length, arith}
-use Rattle.basics.specs.Basics.{if◌then◌else◌}
+use Rattle.basics.specs.Basics.{if'◌then◌else◌}
 use Rattle.basics.specs.Lists.{over}
 use Rattle.basics.proofs.Facts.{by, lie}
 use Rattle.model.specs.State.{Store, Write, Answer, refused, done, count, filled, Outcome}
@@ -79,19 +79,19 @@ module _ (x : LogRecord) (o : Outcome) (s : Store) (log : List ℕ) (e : ℕ) (k
   L = logging x o s log e
 
   pub logged_keeps : accepted L.outcome.answer ≡ false → L.outcome.store ≡ s
-  unfolding logging appending unlogged gives if◌then◌else◌
+  unfolding logging appending unlogged gives if'◌then◌else◌
   logged_keeps h =
       by (accepted o.answer)
       (λ a. by (ltb (length log) (e + log_size x)) (λ k. rw (a, k)) (λ k. lie (sym (rw (a, k) at h) ∙ a)))
       (λ a. rw a (keeps a))
 
   pub logged_stores : L.outcome.writes ≡ []
-  unfolding logging appending unlogged gives if◌then◌else◌
+  unfolding logging appending unlogged gives if'◌then◌else◌
   logged_stores = by (accepted o.answer) (λ a. by (ltb (length log) (e + log_size x)) (λ k. rw (a, k)) (λ k. rw (a, k) none-stored)) (λ a. rw a none-stored)
 
   -- not refused for want of room, it has done what the plain call does
   pub logged_is : (m m' log' : List ℕ) (r : Logged) → LoggedAfter L m r m' log' → (r.answer ≡ Refused 29 → ⊥) → Afterwards o m r.answer m'
-  unfolding logging appending unlogged gives if◌then◌else◌
+  unfolding logging appending unlogged gives if'◌then◌else◌
   logged_is m m' log' r l n = go (logging x o s log e) refl l
     where
       go : (q : LoggedOutcome) → logging x o s log e ≡ q → LoggedAfter q m r m' log' → Afterwards o m r.answer m'
@@ -158,11 +158,11 @@ module _ (len : ℕ) (img : List ℕ) (s : Store) (e : length img ≡ block_size
   other = by (eqb len (block_size * s.blocks)) (λ q. absurd (h (eqb-true len (block_size * s.blocks) q ∙ sym e))) (λ q. q)
 
   bad_step : (call (steps len) s).writes ≡ []
-  unfolding call step_call bad_image unless if◌then◌else◌ gives
+  unfolding call step_call bad_image unless if'◌then◌else◌ gives
   bad_step = rw other refl
 
   bad_run : (limit : ℕ) → (call (runs limit len) s).writes ≡ []
-  unfolding call run_call bad_image unless if◌then◌else◌ gives
+  unfolding call run_call bad_image unless if'◌then◌else◌ gives
   bad_run limit = rw other refl
 
 module _ (s : Store) (img m : List ℕ) (e : store_in m ≡ some s) where

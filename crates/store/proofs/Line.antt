@@ -1,7 +1,7 @@
 -- The quoted line over the contracts: a run's memory and image are those of the rules' own run, of which the model's line speaks.
 use Rattle.block_forms.specs.Limits.{block_size}
 use Rattle.basics.proofs.Kit.{◌≡◌, refl, sym, ap, ◌∙◌, subst, ◌&&◌, some, List, [], ◌∷◌, ◌++◌, map, ℕ, ◌*◌, length, arith}
-use Rattle.basics.specs.Basics.{if◌then◌else◌}
+use Rattle.basics.specs.Basics.{if'◌then◌else◌}
 use Rattle.basics.proofs.Facts.{AllOf}
 use Rattle.image.specs.Stages.{Stage, refuses, holds}
 use Rattle.image.specs.View.{view}
@@ -52,7 +52,7 @@ follows n past base s cs img m img' m' (full {m₁ = m₁} f x g g' i r q h rs) 
     follows n past base s cs img m₁ img' m' rs (ap store_in (full_leaves f x m m₁ g g' i r q h) ∙ e) b l ok
 follows n past base s (c ∷ cs) img m img' m' (next {img₁ = img₁} {m₁ = m₁} d rs) e b l ok =
     let o = call c s in
-    let base' = if is_begin c && accepted o.answer then past else base in
+    let base' = if' is_begin c && accepted o.answer then past else base in
     let rest = log (past ++ c ∷ []) base' o.store cs in
     let k = does s img m e c img₁ m₁ (l ∙ ap (λ (z : ℕ). block_size * z) (sym b)) d in
     let parts = all_parts (WriteOk n) (map (tag base') o.writes) rest ok in

@@ -1,6 +1,6 @@
 -- What a call answers to C: one number.
 use Rattle.std.specs.Prelude.{◌≡◌, ℕ, min, ℤ, pos, neg_ℤ}
-use Rattle.basics.specs.Basics.{if◌then◌else◌}
+use Rattle.basics.specs.Basics.{if'◌then◌else◌}
 use Rattle.call_contracts.specs.Shape.{is_accepted}
 use Rattle.call_contracts.specs.declared.Answer.{Answer}
 use Rattle.call_contracts.specs.declared.Answer.TheVariants.{Done, Count, Filled, Refused}
@@ -32,7 +32,7 @@ pub record CodedLog (x : ℤ) (e : ℕ) (Holds : Logged → Type 0) : Type 0 whe
 
 -- the number behind the pointer after a roll-forward: its end if it was accepted, else what it was
 unfoldable pub end_after : Answer → ℕ → ℕ → ℕ
-end_after a new old = if is_accepted a then new else old
+end_after a new old = if' is_accepted a then new else old
 
 -- x is the number, and e' what e becomes, of a roll-forward's answer for which this holds
 pub record CodedForward (x : ℤ) (e e' : ℕ) (Holds : Logged → Type 0) : Type 0 where

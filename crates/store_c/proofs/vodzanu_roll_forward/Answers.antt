@@ -1,6 +1,6 @@
 -- `store_c::vodzanu_roll_forward` meets its contract: the end is written if the roll-forward is accepted, and stays else.
 use Rattle.basics.proofs.Kit.{◌≡◌, sym, ◌∙◌, true, false, ℕ, ⊎_elim, rules}
-use Rattle.basics.specs.Basics.{if◌then◌else◌}
+use Rattle.basics.specs.Basics.{if'◌then◌else◌}
 use Rattle.call_contracts.specs.Shape.{is_accepted}
 use Rattle.call_contracts.specs.declared.Answer.{Answer}
 use Rattle.store.specs.Code.{end_after}
@@ -8,11 +8,11 @@ use Rattle.store_c.proofs.vodzanu_roll_forward.Goals.{then-is_accepted, else-is_
 use Rattle.store_c.proofs.vodzanu_roll_forward.Goals as goal
 
 written : (a : Answer) (new old : ℕ) → is_accepted a ≡ true → end_after a new old ≡ new
-unfolding end_after if◌then◌else◌
+unfolding end_after if'◌then◌else◌
 written a new old h = rw h
 
 stays : (a : Answer) (new old : ℕ) → is_accepted a ≡ false → end_after a new old ≡ old
-unfolding end_after if◌then◌else◌
+unfolding end_after if'◌then◌else◌
 stays a new old h = rw h
 
 pub returns : goal.returns

@@ -1,6 +1,6 @@
 -- `block_reader::Cursor::next` meets its contract: no record where one would reach too far or be too long, else the record as the definitions read it (`found_as`).
 use Rattle.basics.proofs.Kit.{lt-ltb, le-ltb, ◌≡◌, sym, ◌∙◌, List, ℕ, ◌+◌, ◌%◌, ltb, arith}
-use Rattle.basics.specs.Basics.{if◌then◌else◌}
+use Rattle.basics.specs.Basics.{if'◌then◌else◌}
 use Rattle.block_forms.specs.Limits.{record_head, mark_value, committed_value}
 use Rattle.block_forms.specs.Numbers.{num4}
 use Rattle.block_forms.proofs.ReadTuples.{owner_part}
@@ -50,7 +50,7 @@ returns c = let xs : List ℕ = c.args.block.now in
     let f : ℕ = flags_at xs at in
     let w : ℕ = num4 xs (at + record_head) in
     let z = c.record_size in
-    let word : c.if-tentative.word ≡ (if ltb f committed_value then w else 0) =
+    let word : c.if-tentative.word ≡ (if' ltb f committed_value then w else 0) =
     elim c.if-tentative.branch [ then-tentative h ↦ h.word-is ∙ h.get4-word.ensures ∙ word_tentative f w (lt-ltb _ _ h.if-tentative.true) | else-tentative h ↦ h.word-is ∙ word_committed f w (le-ltb _ _ h.if-tentative.false) ] in
     found_as xs at c.requires (omega (arith, c.if-at-gt-LAST_RECORD.false)) (omega (arith, c.if-len-gt-PAYLOAD_LIMIT.false)) z.result z.ensures c.get4.ensures
     c.get4-2.ensures word c.owner_of.ensures c.mark_of.ensures (omega (arith, c.if-end-gt-BLOCK_SIZE.false))
