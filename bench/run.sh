@@ -10,7 +10,7 @@ for library in sqlite3 lmdb; do
     fi
 done
 
-rt staticlib store >&2
+tools/staticlib.sh
 mkdir -p target/bench
 build() { # NAME, then its sources, then the libraries that it needs
     name=$1
