@@ -138,7 +138,7 @@ fn digest_with(d: u64, byte: u8) -> u64
     (31 * d + byte as u64) % 4294967291
 }
 
-fn digest(s: &[u8]) -> u64 {
+pub fn digest(s: &[u8]) -> u64 {
     let mut d: u64 = 0;
     for b in s {
         d = digest_with(d, *b);
