@@ -277,8 +277,7 @@ fn write_block(image: &mut [u8], m: &mut [u8], p: usize, taken: u32) -> u32
     store_directory(image, m, taken)
 }
 
-// Stores the next block, and changes the allocator in place: the block taken is the last one, and one less is left. A function over a
-// `&mut` to a struct, and one that makes such a reference, is proved by a walk of its MIR, by hand: so this one and the next are short.
+// Stores the next block, and changes the allocator in place: the block taken is the last one, and one less is left.
 fn store_block(a: &mut Allocator, image: &mut [u8], m: &mut [u8], p: usize)
     requires { BlockLeft image.old m.old p × (a.old ≡ allocator_in m.old) }
     ensures { Steps image.old m.old image.new m.new × (a.new ≡ allocator_in m.new) }
