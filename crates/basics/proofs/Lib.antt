@@ -17,3 +17,4 @@ pub mod Maps
 pub mod Froms
 pub mod Counting
 pub mod Sorted
+pub mod Iterators

@@ -1,7 +1,8 @@
 -- Laws of `over`, at lists of any length.
-use Rattle.basics.proofs.Kit.{◌≡◌, refl, sym, ◌∙◌, List, [], ◌++◌, append_assoc, ℕ, ◌+◌, ◌≤◌, add-zero, add_assoc, length, take, drop, length-append, length-take, length-drop}
+use Rattle.basics.proofs.Kit.{◌≡◌, refl, sym, ◌∙◌, List, [], ◌++◌, append_assoc, ℕ, ◌+◌, ◌-◌, ◌≤◌, add-zero, add_assoc, length, take, drop, length-append, length-take, length-drop}
 use Rattle.basics.proofs.Kit.{take-append-drop, take_at, drop-append_seam, drop-drop, take-append-add, take-append-le, take-append_seam, drop-append-add, drop-append-le, drop_at, arith}
-use Rattle.basics.proofs.Kit.{ap, ◌∷◌, append-nil, ◌<◌, zero-add, add-one, get_or, set, drop_of_length-le, set_split, take_all, take-suc, get_or-drop}
+use Rattle.basics.proofs.Kit.{ap, ◌∷◌, ◌<◌, zero-add, add-one, get_or, set, set_split, take-suc}
+use borrow.Rule.Slice.PartMut.{put_mid}
 use Rattle.basics.specs.Lists.{over}
 
 over_def : (s : List ℕ) (at : ℕ) (xs : List ℕ) → over s at xs ≡ take at s ++ (xs ++ drop (at + length xs) s)
@@ -34,6 +35,9 @@ over_inner p m q xs r h =
     rw (add_assoc (length p) r (length xs), take-append-add p (m ++ q) r, drop-append-add p (m ++ q) (r + length xs), take-append-le r m q hr, drop-append-le (r + length xs) m q h)
     (simp append_assoc)
 
+pub length_part : (n k : ℕ) (s : List ℕ) → k + n ≤ length s → length (take n (drop k s)) ≡ n
+length_part n k s h = simp (length-take, length-drop) (omega arith)
+
 -- one after another
 pub over_over : (s xs ys : List ℕ) (at : ℕ) → at + length xs ≤ length s → over (over s at xs) (at + length xs) ys ≡ over s at (xs ++ ys)
 unfolding over
@@ -59,6 +63,18 @@ over_part s xs at w r h k =
     let inner : over (P ++ (W ++ Q)) (length P + r) xs ≡ P ++ (over W r xs ++ Q) = over_inner P W Q xs r (omega arith) in
     over_def s at (over W r xs) ∙ rw lO (rw (parts, lP) at (sym inner))
 
+-- elements copied over a part, as the library says it
+pub put_over : (s : List ℕ) (at end : ℕ) {ys xs : List ℕ} → ys ≡ xs → end ≡ at + length xs → put_mid at (end - at) s ys ≡ over s at xs
+unfolding over
+put_over s at end {xs = xs} p e = let n : end - at ≡ length xs = omega arith in rw (p, n, drop-drop (length xs) at s)
+
+-- and a part of another list
+pub part_over : (s from : List ℕ) (at end start n : ℕ) {ys : List ℕ} → ys ≡ take (start + n - start) (drop start from) → start + n ≤ length from → end ≡ at + n
+    → put_mid at (end - at) s ys ≡ over s at (take n (drop start from))
+part_over s from at end start n p h e =
+    let k : start + n - start ≡ n = omega arith in
+    put_over s at end (rw k at p) (omega (arith, length_part n start from h))
+
 -- ---- element by element
 
 pub set_over : (m : List ℕ) (i v : ℕ) → i < length m → set m i v ≡ over m i (v ∷ [])
@@ -80,28 +96,8 @@ put_four m at a b c d h =
       set_next m (a ∷ b ∷ c ∷ []) at 3 d refl (omega arith),
     )
 
-pub copy_iteration : (m s : List ℕ) (at start i : ℕ) → at + i < length m → start + i < length s
-    → set (over m at (take i (drop start s))) (at + i) (get_or s (start + i) 0) ≡ over m at (take (i + 1) (drop start s))
-copy_iteration m s at start i h k =
-    let d : i < length (drop start s) = rw (length-drop start s) (omega arith) in
-    let l : length (take i (drop start s)) ≡ i = simp length-take (omega arith) in
-    rw (← get_or-drop start s i 0, set_next m (take i (drop start s)) at i (get_or (drop start s) i 0) (sym l) (omega arith), add-one i)
-    (ap (over m at) (sym (take-suc (drop start s) i 0 d)))
-
--- a list copied over the whole of another is that list
-pub copied_whole : (m s : List ℕ) (n : ℕ) {m' : List ℕ} → m' ≡ over m 0 (take n (drop 0 s)) → n ≡ length m → n ≡ length s → m' ≡ s
-unfolding over
-copied_whole m s n e hm hs =
-    let t : take n s ≡ s = take_all n s (omega arith) in
-    let k : length m ≤ 0 + length s = omega arith in
-    let d : drop (0 + length s) m ≡ [] = drop_of_length-le m k in
-    e ∙ rw (t, d) (append-nil s)
-
 pub over_then : (m xs ys : List ℕ) (at n : ℕ) → n ≡ length xs → at + length xs ≤ length m → over (over m at xs) (at + n) ys ≡ over m at (xs ++ ys)
 over_then m xs ys at n e h = rw e (over_over m xs ys at h)
-
-pub length_part : (n k : ℕ) (s : List ℕ) → k + n ≤ length s → length (take n (drop k s)) ≡ n
-length_part n k s h = simp (length-take, length-drop) (omega arith)
 
 -- one entry more
 pub put_iteration : (m s : List ℕ) (at i v : ℕ) → at + i < length m → i < length s → v ≡ get_or s i 0

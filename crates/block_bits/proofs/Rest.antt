@@ -1,19 +1,24 @@
--- A turn of a loop over fields: what is left of them from index i on.
-use Rattle.basics.proofs.Kit.{◌≡◌, ap, List, ℕ, ◌+◌, ◌≤◌, ◌<◌, length, drop, get_or, drop_of_length-le}
-use Rattle.block_bits.specs.Bits.{bits_of}
+-- A turn of a loop over fields: what is left of their widths and values.
+use Rattle.basics.proofs.Kit.{◌≡◌, refl, ap, List, [], ◌∷◌, ℕ, ◌+◌, ◌≤◌, length, arith, ⊎_elim, ◌⊎◌}
+use Rattle.block_bits.specs.Bits.{bits_of, Inside}
 use Rattle.basics.specs.Lists.{over}
-use Rattle.basics.proofs.Iterations.{drop_iteration}
-use Rattle.block_bits.specs.Fields.{put_all, fields_of, sum, Words}
+use Rattle.block_bits.specs.Fields.{put_all, fields_of, sum, Words, AllInside}
 
-pub sum_rest : (l : List ℕ) (i : ℕ) → i < length l → sum (drop i l) ≡ get_or l i 0 + sum (drop (i + 1) l)
-sum_rest l i h = ap sum (drop_iteration l i h)
+module _ {s ws : List ℕ} {at w : ℕ} (rest : List ℕ) (e : ws ≡ w ∷ rest) (h : AllInside s at ws) where
+  words : (w ≤ 56) × Words rest
+  words = rw e at h.words
 
-pub words_rest : (l : List ℕ) (i : ℕ) → i < length l → Words (drop i l) → (get_or l i 0 ≤ 56) × Words (drop (i + 1) l)
-words_rest l i h w = rw (drop_iteration l i h) at w
+  pub first_inside : Inside s at w
+  first_inside = record { word = words.0; within = omega (arith, h.within, ap sum e); small = omega (arith, h.small, ap sum e) }
 
-pub put_rest : (s ws vs : List ℕ) (i at : ℕ) → i < length ws → i < length vs
-    → put_all s at (fields_of (drop i ws) (drop i vs)) ≡ put_all (over s at (bits_of (get_or ws i 0) (get_or vs i 0))) (at + get_or ws i 0) (fields_of (drop (i + 1) ws) (drop (i + 1) vs))
-put_rest s ws vs i at h k = rw (drop_iteration ws i h, drop_iteration vs i k)
+  pub rest_inside : (t : List ℕ) → length t ≡ length s → AllInside t (at + w) rest
+  rest_inside t l = record { words = words.1; within = omega (arith, h.within, ap sum e); small = omega (arith, h.small, ap sum e) }
 
-pub put_none : (s ws vs : List ℕ) (i at : ℕ) → i ≤ length ws → length ws ≤ i → put_all s at (fields_of (drop i ws) (drop i vs)) ≡ s
-put_none s ws vs i at h k = rw (drop_of_length-le ws {i = i} k)
+pub put_next : (s : List ℕ) (at : ℕ) (ws' vs' : List ℕ) {ws vs t : List ℕ} {w v : ℕ} → ws ≡ w ∷ ws' → vs ≡ v ∷ vs' → t ≡ over s at (bits_of w v)
+    → put_all t (at + w) (fields_of ws' vs') ≡ put_all s at (fields_of ws vs)
+put_next s at ws' vs' e f g = rw (e, f, g)
+
+pub put_none : (s ws vs : List ℕ) (at : ℕ) → (length ws ≡ 0) ⊎ (length vs ≡ 0) → put_all s at (fields_of ws vs) ≡ s
+put_none s [] vs at h = refl
+put_none s (w ∷ ws) [] at h = refl
+put_none s (w ∷ ws) (v ∷ vs) at h = ⊎_elim (λ e. absurd (omega arith)) (λ e. absurd (omega arith)) h

@@ -1,7 +1,7 @@
 -- A field by way of the whole bytes that it is in: the window.
-use Rattle.basics.proofs.Kit.{◌≡◌, sym, ap, ◌∙◌, subst, List, ◌++◌, ℕ, ◌+◌, ◌*◌, ◌%◌, ◌^◌, ◌≤◌, ◌<◌, ◌/◌, ◌-◌, lt_of_lt_of_le, add_assoc, mod-lt, div-one, pow_mono, pow_pos, shr-shr, high}
+use Rattle.basics.proofs.Kit.{◌≡◌, sym, ap, ◌∙◌, subst, List, ◌++◌, ℕ, ◌+◌, ◌*◌, ◌%◌, ◌^◌, ◌≤◌, ◌<◌, ◌/◌, ◌-◌, lt_of_lt_of_le, add_assoc, mod-lt, mod-eq_of_lt, one-mul, pow-lt, pow_mono, pow_pos, shr-shr, high}
 use Rattle.basics.proofs.Kit.{low, shr_lt, length, get_or, set, arith}
-use Rattle.block_bits.specs.Bits.{bits_of, bits_in, field, mixed}
+use Rattle.block_bits.specs.Bits.{bits_of, bits_in, field, mixed, Middle}
 use Rattle.basics.specs.Lists.{over}
 use Rattle.basics.proofs.Overs.{over_over, over_part}
 use Rattle.block_bits.proofs.Numbers.{length_bits_of, bits_of_add, bits_of_mixed, join_lt}
@@ -44,12 +44,6 @@ store_iteration s d p n i x b h l e inv eb =
     byte_over d (p + i) y b (omega arith) eb ∙ rw (inv, f) (over_over (bits_in s) xs (bits_of 8 y) (8 * p) (omega arith))
     ∙ ap (over (bits_in s) (8 * p)) (sym (bits_iteration n i x h))
 
-pub store_end : (B : List ℕ) (p n i x : ℕ) → i ≤ n → n ≤ i → over B (8 * p) (bits_of (8 * i) (x / 2 ^ (8 * n - 8 * i))) ≡ over B (8 * p) (bits_of (8 * n) x)
-store_end B p n i x a b =
-    let e : i ≡ n = omega arith in
-    let z : 8 * n - 8 * n ≡ 0 = omega arith in
-    rw (e, z, div-one)
-
 -- ---- a field in a window of r + (k + t) bits
 
 pub window_get : (s : List ℕ) (p n at r k t old : ℕ) → 8 * n ≡ r + (k + t) → 8 * p + r ≡ at → p + n ≤ length s
@@ -72,10 +66,28 @@ window_put s p n at r k t x old new l en ea h el em eo =
     ∙ rw (em, eo, en, ← ea, bits_of_mixed r k t (field B (8 * p) w) x, bits_of_field s (8 * p) w (omega arith))
     (over_part B (bits_of k x) (8 * p) w r (omega arith) (omega arith))
 
--- what is computed on the way to the new window fits a word
-pub window_fits : (r k t b x : ℕ) → r + (k + t) ≤ 64 → b < 2 ^ (r + (k + t)) → (b / 2 ^ (k + t) * 2 ^ k + x % 2 ^ k < 2 ^ 64) × (mixed k t b x < 2 ^ 64)
-window_fits r k t b x h hb =
-    let top : b / 2 ^ (k + t) * 2 ^ k + x % 2 ^ k < 2 ^ (r + k) = join_lt r k (b / 2 ^ (k + t)) (x % 2 ^ k) (shr_lt r (k + t) hb) (mod-lt x (pow_pos k)) in (
-      lt_of_lt_of_le top (pow_mono {j = 64} (omega arith)),
-      lt_of_lt_of_le (join_lt (r + k) t (b / 2 ^ (k + t) * 2 ^ k + x % 2 ^ k) (b % 2 ^ t) top (mod-lt b (pow_pos t))) (pow_mono {j = 64} (omega arith)),
-    )
+-- ---- shifts of a word
+
+-- a shift to the left that loses no bit
+shl : (x k : ℕ) → x * 2 ^ k < 2 ^ 64 → x * 2 ^ k % 2 ^ 64 ≡ x * 2 ^ k
+shl x k h = mod-eq_of_lt h
+
+-- what a number is taken modulo for its k low bits
+pub one_shl : (k : ℕ) → k < 64 → 1 * 2 ^ k % 2 ^ 64 ≡ 2 ^ k
+one_shl k h = rw one-mul (mod-eq_of_lt (pow-lt h))
+
+-- what is computed on the way to the new window, as words: no shift loses a bit, and both sums fit
+pub record Words (r k t b x : ℕ) : Type 0 where
+  pub upper : b / 2 ^ (k + t) * 2 ^ k % 2 ^ 64 + x % (1 * 2 ^ k % 2 ^ 64) ≡ b / 2 ^ (k + t) * 2 ^ k + x % 2 ^ k
+  pub upper_fits : b / 2 ^ (k + t) * 2 ^ k + x % 2 ^ k < 2 ^ 64
+  pub whole : (b / 2 ^ (k + t) * 2 ^ k % 2 ^ 64 + x % (1 * 2 ^ k % 2 ^ 64)) * 2 ^ t % 2 ^ 64 + b % (1 * 2 ^ t % 2 ^ 64) ≡ mixed k t b x
+  pub whole_fits : mixed k t b x < 2 ^ 64
+
+pub window_words : {r k t b : ℕ} (x : ℕ) → Middle b r k t → Words r k t b x
+window_words {r} {k} {t} {b} x m =
+    let h : ℕ = b / 2 ^ (k + t) * 2 ^ k + x % 2 ^ k in
+    let top : h < 2 ^ (r + k) = join_lt r k (b / 2 ^ (k + t)) (x % 2 ^ k) (shr_lt r (k + t) m.fits) (mod-lt x (pow_pos k)) in
+    let high : h < 2 ^ 64 = lt_of_lt_of_le top (pow_mono {j = 64} (omega (arith, m.size))) in
+    let fits : h * 2 ^ t + b % 2 ^ t < 2 ^ 64 = lt_of_lt_of_le (join_lt (r + k) t h (b % 2 ^ t) top (mod-lt b (pow_pos t))) (pow_mono {j = 64} (omega (arith, m.size))) in
+    let upper : b / 2 ^ (k + t) * 2 ^ k % 2 ^ 64 + x % (1 * 2 ^ k % 2 ^ 64) ≡ h = rw (shl (b / 2 ^ (k + t)) k (omega arith), one_shl k (omega (arith, m.width))) in
+    record { upper = upper; upper_fits = high; whole = rw (upper, shl h t (omega arith), one_shl t (omega (arith, m.width))); whole_fits = fits }

@@ -1,10 +1,10 @@
 // The block forms: header, page and directory, each a value and 512 bytes.
 #![tactic(auto)]
 
-ghost use Rattle.std.specs.Prelude.{◌≡◌, [], ◌∷◌, ◌+◌, ◌%◌, ◌<◌, ◌≤◌, length, take, drop, leb};
+ghost use Rattle.std.specs.Prelude.{◌≡◌, [], ◌+◌, ◌<◌, ◌≤◌, length, take, drop, leb};
 ghost use Rattle.basics.specs.Lists.{over};
 ghost use Rattle.block_forms.specs.Limits.{block_size, payload_limit, record_space, join_sum, mark_value, entries_per_block, most_number};
-ghost use Rattle.block_forms.specs.Numbers.{be4};
+ghost use Rattle.block_forms.specs.Numbers.{be4, num4};
 ghost use Rattle.block_forms.specs.Tuple.{record_size, OwnerFits};
 ghost use Rattle.block_forms.specs.Spell.{zeros};
 ghost use Rattle.block_forms.specs.Block.{header, directory, DirectoryStart, encode_block};
@@ -12,7 +12,7 @@ ghost use Rattle.block_forms.specs.Decode.{read_owner, read_mark};
 ghost use Rattle.block_forms.specs.Bytes.{owner_is, owner_as, flags_of, owner_word, Appendable, Appended, PageStart, part_page};
 
 // A header block's fields.
-#[derive(Clone, Copy)]
+#[derive(Clone, Copy, Debug, PartialEq, Eq)]
 pub struct Header {
     pub blocks: u32,
     pub capacity: u32,
@@ -27,14 +27,15 @@ pub struct Header {
 }
 
 // Who owns a tuple: the committed mark, or its transaction and statement.
-#[derive(Clone, Copy)]
+// An Option of two numbers would say no more, and not what None means: so it is an enum of its own.
+#[derive(Clone, Copy, Debug, PartialEq, Eq)]
 pub enum Owner {
     Committed,
     Tentative { transaction: u32, statement: u32 },
 }
 
 // A tuple whose payload stands in a block or in any other slice, from start on.
-#[derive(Clone, Copy)]
+#[derive(Clone, Copy, Debug, PartialEq, Eq)]
 pub struct Record {
     pub key: u32,
     pub number: u32,
@@ -80,9 +81,10 @@ impl PageLayout {
         ensures { result ≡ record_size tentative len }
     {
         if tentative {
-            return PageLayout::TENTATIVE_HEAD + len;
+            PageLayout::TENTATIVE_HEAD + len
+        } else {
+            PageLayout::RECORD_HEAD + len
         }
-        PageLayout::RECORD_HEAD + len
     }
 
     // Records of this size have room in a block.
@@ -101,29 +103,20 @@ impl PageLayout {
     }
 }
 
-fn low(x: u32) -> u8
-    ensures { result ≡ x % 256 }
-{
-    (x % 256) as u8
-}
-
 // Four bytes, high byte first.
 pub fn put4(block: &mut [u8], at: usize, v: u32)
     requires { at + 4 ≤ length block.old }
     ensures { block.new ≡ over block.old at (be4 v) }
 {
-    block[at] = low(v / 16777216);
-    block[at + 1] = low(v / 65536);
-    block[at + 2] = low(v / 256);
-    block[at + 3] = low(v);
+    block[at..at + 4].copy_from_slice(&v.to_be_bytes());
 }
 
-// One byte.
-fn put1(block: &mut [u8], at: usize, v: u8)
-    requires { at < length block.old }
-    ensures { block.new ≡ over block.old at (v ∷ []) }
+// The number in four bytes, high byte first.
+pub fn get4(block: &[u8], at: usize) -> u32
+    requires { at + 4 ≤ length block.now }
+    ensures { result ≡ num4 block.now at }
 {
-    block[at] = v;
+    u32::from_be_bytes([block[at], block[at + 1], block[at + 2], block[at + 3]])
 }
 
 // Copies len bytes of `from`, from start on, over those of `block` from `at` on.
@@ -131,11 +124,7 @@ pub fn copy(block: &mut [u8], at: usize, from: &[u8], start: usize, len: usize)
     requires { (at + len ≤ length block.old) × (start + len ≤ length from.now) }
     ensures { block.new ≡ over block.old at (take len (drop start from.now)) }
 {
-    let mut i: usize = 0;
-    while i < len {
-        block[at + i] = from[start + i];
-        i = i + 1;
-    }
+    block[at..at + len].copy_from_slice(&from[start..start + len]);
 }
 
 // ---- a record's ninth byte and its owner's word
@@ -161,10 +150,7 @@ pub fn flags_of(owner: Owner, mark: bool, len: usize) -> u8
     }
     match owner {
         Owner::Committed => COMMITTED + flags,
-        Owner::Tentative {
-            transaction: _,
-            statement: _,
-        } => flags,
+        Owner::Tentative { .. } => flags,
     }
 }
 
@@ -176,9 +162,9 @@ pub fn word_of(owner: Owner) -> u32
     match owner {
         Owner::Committed => 0,
         Owner::Tentative {
-            transaction: t,
-            statement: s,
-        } => t * STATEMENTS + s,
+            transaction,
+            statement,
+        } => transaction * STATEMENTS + statement,
     }
 }
 
@@ -187,12 +173,13 @@ pub fn owner_of(flags: u8, word: u32) -> Owner
     ensures { result ≡ owner_as (read_owner flags word) }
 {
     if flags < COMMITTED {
-        return Owner::Tentative {
+        Owner::Tentative {
             transaction: word / STATEMENTS,
             statement: word % STATEMENTS,
-        };
+        }
+    } else {
+        Owner::Committed
     }
-    Owner::Committed
 }
 
 // The delete mark, from a record's ninth byte.
@@ -222,28 +209,18 @@ pub fn append(block: &mut [u8; BLOCK_SIZE], at: usize, r: Record, from: &[u8]) -
     requires { Appendable at r from.now }
     ensures { Appended block.old block.new at r from.now result }
 {
-    let start = r.start;
-    let len = r.len;
-    let owner = r.owner;
     put4(block, at, r.key);
     put4(block, at + 4, r.number);
-    put1(block, at + 8, flags_of(owner, r.mark, len));
-    match owner {
-        Owner::Committed => {
-            let end = at + PageLayout::record_size(len, false);
-            copy(block, end - len, from, start, len);
-            end
+    block[at + 8] = flags_of(r.owner, r.mark, r.len);
+    let payload = match r.owner {
+        Owner::Committed => at + PageLayout::RECORD_HEAD,
+        Owner::Tentative { .. } => {
+            put4(block, at + PageLayout::RECORD_HEAD, word_of(r.owner));
+            at + PageLayout::TENTATIVE_HEAD
         }
-        Owner::Tentative {
-            transaction: _,
-            statement: _,
-        } => {
-            put4(block, at + PageLayout::RECORD_HEAD, word_of(owner));
-            let end = at + PageLayout::record_size(len, true);
-            copy(block, end - len, from, start, len);
-            end
-        }
-    }
+    };
+    block[payload..payload + r.len].copy_from_slice(&from[r.start..r.start + r.len]);
+    payload + r.len
 }
 
 // Copies a whole block out.
@@ -251,13 +228,7 @@ pub fn copy_out(out: &mut [u8], block: &[u8])
     requires { (length out.old ≡ block_size) × (length block.now ≡ block_size) }
     ensures { out.new ≡ block.now }
 {
-    copy(out, 0, block, 0, BLOCK_SIZE);
-}
-
-fn big(x: u16) -> u64
-    ensures { result ≡ x }
-{
-    x as u64
+    out.copy_from_slice(block);
 }
 
 // A directory's block, in a block of zeros, filled from the front.
@@ -269,10 +240,8 @@ pub fn spell_directory(block: &mut [u8], level: u32, entries: &[u16], count: usi
     block_bits::put_bits(block, 4, 9, count as u64);
     block_bits::put_bits(block, 13, 32, level as u64);
     block_bits::put_bits(block, 45, 19, 0);
-    let mut i: usize = 0;
-    while i < count {
-        block_bits::put_bits(block, 64 + 12 * i, 12, big(entries[i]));
-        i = i + 1;
+    for (i, entry) in entries[..count].iter().enumerate() {
+        block_bits::put_bits(block, 64 + 12 * i, 12, u64::from(*entry));
     }
 }
 

@@ -1,8 +1,7 @@
 -- What reading a block answers, once its fields are read and spelled again.
-use Rattle.basics.proofs.Kit.{◌≡◌, ap, ◌∙◌, subst, ⊎_elim, true, false, some, none, List, [], ◌∷◌, ℕ, ◌≤◌, ◌<◌, length, take, le-leb, lt-leb, ne_eqb, arith}
-use types.Run.{OneOf}
-use denote.Enum.Declared.{tag_of}
-use Rattle.basics.proofs.Facts.{by-option, clash}
+use Rattle.basics.proofs.Kit.{◌≡◌, refl, ap, true, false, some, none, List, ℕ, ◌≤◌, ◌<◌, length, take, le-leb, lt-leb, ne_eqb}
+use Rattle.std.specs.Prelude.{Some, None}
+use Rattle.basics.proofs.Facts.{clash}
 use Rattle.basics.specs.Basics.{if'◌then◌else◌}
 use Rattle.block_forms.specs.Limits.{entries_per_block}
 use Rattle.block_bits.specs.Bits.{bits_in, field}
@@ -12,27 +11,26 @@ use Rattle.block_forms.specs.Block.{Block, malformed, header, page, directory, a
 use Rattle.block_forms.specs.Decode.{spelled_by, read_header, header_in, page_tuples, page_table, page_count, page_level, page_spelled, page_in}
 use Rattle.block_forms.specs.Decode.{read_entries, directory_count, directory_level, directory_in, kind, decode_block}
 use Rattle.block_forms.specs.declared.Header.{Header}
-use Rattle.block_forms.proofs.Laws.{spelled_yes, spelled_no, header_is, page_is, directory_is}
+use Rattle.block_forms.proofs.Laws.{spelled_yes, spelled_no}
 use Rattle.block_reader.specs.Answers.{reading}
-use Rattle.block_reader.specs.declared.Reading.{Reading}
-use Rattle.block_reader.specs.declared.Reading.TheVariants.{IsHeader, IsPage, IsDirectory, Malformed}
-use Rattle.block_reader.specs.contracts.Reading.{the_type}
+use Rattle.block_reader.specs.declared.PageHead.{PageHead}
+use Rattle.block_reader.specs.declared.Block.TheVariants as read
 
 -- ---- header
 
 module _ (xs : List ℕ) {h : Header} (e : h ≡ read_header xs) where
-  pub header_yes : same (encode_block (header h)) xs ≡ true → reading (header_in xs) ≡ IsHeader h
+  pub header_yes : same (encode_block (header h)) xs ≡ true → reading (header_in xs) ≡ Some (read.Header h)
   unfolding header_in reading
   header_yes s = rw (← e, spelled_yes xs (header h) s)
 
-  pub header_no : same (encode_block (header h)) xs ≡ false → reading (header_in xs) ≡ Malformed
+  pub header_no : same (encode_block (header h)) xs ≡ false → reading (header_in xs) ≡ None
   unfolding header_in reading
   header_no s = rw (← e, spelled_no xs (header h) s)
 
 -- ---- directory
 
 module _ (xs : List ℕ) {n : ℕ} (en : n ≡ field (bits_in xs) 4 9) where
-  pub directory_many : entries_per_block < n → reading (directory_in xs) ≡ Malformed
+  pub directory_many : entries_per_block < n → reading (directory_in xs) ≡ None
   unfolding directory_in directory_count reading if'◌then◌else◌
   directory_many h = rw (← en, lt-leb n entries_per_block h)
 
@@ -41,18 +39,18 @@ module _ (xs : List ℕ) {n : ℕ} (en : n ≡ field (bits_in xs) 4 9) where
     unfolding directory_in directory_count directory_level if'◌then◌else◌
     here = rw (← en, ← el, le-leb n entries_per_block h, e)
 
-    pub directory_yes : length (take n es) ≡ n → same (encode_block (directory l (take n es))) xs ≡ true → reading (directory_in xs) ≡ IsDirectory n l
+    pub directory_yes : length (take n es) ≡ n → same (encode_block (directory l (take n es))) xs ≡ true → reading (directory_in xs) ≡ Some (read.Directory n l)
     unfolding reading
     directory_yes t s = rw (here, spelled_yes xs (directory l (take n es)) s, t)
 
-    pub directory_no : same (encode_block (directory l (take n es))) xs ≡ false → reading (directory_in xs) ≡ Malformed
+    pub directory_no : same (encode_block (directory l (take n es))) xs ≡ false → reading (directory_in xs) ≡ None
     unfolding reading
     directory_no s = rw (here, spelled_no xs (directory l (take n es)) s)
 
 -- ---- page
 
 module _ (xs : List ℕ) {t n l : ℕ} (et : t ≡ field (bits_in xs) 4 3) (en : n ≡ field (bits_in xs) 7 6) (el : l ≡ field (bits_in xs) 22 32) where
-  pub page_none : page_tuples n xs ≡ none → reading (page_in xs) ≡ Malformed
+  pub page_none : page_tuples n xs ≡ none → reading (page_in xs) ≡ None
   unfolding page_in page_spelled page_count reading
   page_none h = rw (← en, h)
 
@@ -61,11 +59,11 @@ module _ (xs : List ℕ) {t n l : ℕ} (et : t ≡ field (bits_in xs) 4 3) (en :
     unfolding page_in page_spelled page_count page_table page_level
     there = rw (← en, g, ← et, ← el)
 
-    pub page_yes : length ts ≡ n → same (encode_block (page t l ts)) xs ≡ true → reading (page_in xs) ≡ IsPage t n l
+    pub page_yes : length ts ≡ n → same (encode_block (page t l ts)) xs ≡ true → reading (page_in xs) ≡ Some (read.Page (record { table = t; count = n; level = l }))
     unfolding reading
     page_yes c s = rw (there, spelled_yes xs (page t l ts) s, c)
 
-    pub page_no : same (encode_block (page t l ts)) xs ≡ false → reading (page_in xs) ≡ Malformed
+    pub page_no : same (encode_block (page t l ts)) xs ≡ false → reading (page_in xs) ≡ None
     unfolding reading
     page_no s = rw (there, spelled_no xs (page t l ts) s)
 
@@ -88,30 +86,32 @@ module _ (xs : List ℕ) {k : ℕ} (e : k ≡ field (bits_in xs) 0 4) where
   unfolding decode_block kind if'◌then◌else◌
   kind_other a b c = rw (← e, ne_eqb k 1 a, ne_eqb k 2 b, ne_eqb k 3 c)
 
-  pub reads_other : (k ≡ 1 → ⊥) → (k ≡ 2 → ⊥) → (k ≡ 3 → ⊥) → reading (decode_block xs) ≡ Malformed
+  pub reads_other : (k ≡ 1 → ⊥) → (k ≡ 2 → ⊥) → (k ≡ 3 → ⊥) → reading (decode_block xs) ≡ None
   unfolding reading
   reads_other a b c = rw (kind_other a b c)
 
 -- ---- what an answer says of the block
 
-pub is_header_lem : (b : Block) {h : Header} → IsHeader h ≡ reading b → as_header b ≡ some h
+pub is_header_lem : (b : Block) {h : Header} → Some (read.Header h) ≡ reading b → as_header b ≡ some h
 unfolding reading
 is_header_lem malformed e = clash cc
 is_header_lem (header g) e = cc
 is_header_lem (page t l ts) e = clash cc
 is_header_lem (directory l es) e = clash cc
 
--- b is a page of n tuples
-pub record PageIs (b : Block) (t n l : ℕ) : Type 0 where
+-- b is a page with this head
+pub record PageIs (b : Block) (h : PageHead) : Type 0 where
   pub tuples : List Tuple
-  pub is : as_page b ≡ some (record { table = t; level = l; tuples = tuples })
-  pub count : length tuples ≡ n
+  pub is : as_page b ≡ some (record { table = h.table; level = h.level; tuples = tuples })
+  pub count : length tuples ≡ h.count
 
-pub is_page : (b : Block) {t n l : ℕ} → IsPage t n l ≡ reading b → PageIs b t n l
+pub is_page : (b : Block) {h : PageHead} → Some (read.Page h) ≡ reading b → PageIs b h
 unfolding reading
 is_page malformed e = clash cc
 is_page (header k) e = clash cc
-is_page (page t l ts) e = record { tuples = ts; is = cc; count = cc }
+is_page (page t l ts) {h} e =
+    let q : record { table = t; count = length ts; level = l } ≡ h = cc in
+    record { tuples = ts; is = ap (λ (k : PageHead). some (record { table = k.table; level = k.level; tuples = ts })) q; count = ap (λ (k : PageHead). k.count) q }
 is_page (directory l es) e = clash cc
 
 -- b is a directory of n entries
@@ -120,30 +120,31 @@ pub record DirectoryIs (b : Block) (n l : ℕ) : Type 0 where
   pub is : as_directory b ≡ some (record { level = l; entries = entries })
   pub count : length entries ≡ n
 
-pub is_directory : (b : Block) {n l : ℕ} → IsDirectory n l ≡ reading b → DirectoryIs b n l
+pub is_directory : (b : Block) {n l : ℕ} → Some (read.Directory n l) ≡ reading b → DirectoryIs b n l
 unfolding reading
 is_directory malformed e = clash cc
 is_directory (header h) e = clash cc
 is_directory (page t l ts) e = clash cc
 is_directory (directory l es) e = record { entries = es; is = cc; count = cc }
 
--- the reading is one of some variants, by their numbers
-abbrev pub OneOfThese : List ℕ → Reading → Type 0
-OneOfThese ks y = OneOf ks (tag_of the_type y)
+-- it is not of a kind that it is not read as
+pub no_header : (b : Block) → ((h : Header) → reading b ≡ Some (read.Header h) → ⊥) → as_header b ≡ none
+unfolding reading
+no_header malformed n = refl
+no_header (header h) n = absurd (n h refl)
+no_header (page t l ts) n = refl
+no_header (directory l es) n = refl
 
--- it is of another variant than a block of the kind has
-module _ {x : Reading} (b : Block) (e : x ≡ reading b) where
-  pub no_header : OneOfThese (1 ∷ 2 ∷ 3 ∷ []) x → as_header b ≡ none
-  unfolding reading
-  no_header k = by-option (as_header b) (λ h. h) (λ a h. let z = subst (OneOfThese (1 ∷ 2 ∷ 3 ∷ [])) (e ∙ ap reading (header_is b h)) k in
-      ⊎_elim (λ y. absurd (omega arith)) (⊎_elim (λ y. absurd (omega arith)) (λ y. absurd (omega arith))) z)
+pub no_page : (b : Block) → ((h : PageHead) → reading b ≡ Some (read.Page h) → ⊥) → as_page b ≡ none
+unfolding reading
+no_page malformed n = refl
+no_page (header h) n = refl
+no_page (page t l ts) n = absurd (n (record { table = t; count = length ts; level = l }) refl)
+no_page (directory l es) n = refl
 
-  pub no_page : OneOfThese (0 ∷ 2 ∷ 3 ∷ []) x → as_page b ≡ none
-  unfolding reading
-  no_page k = by-option (as_page b) (λ h. h) (λ a h. let z = subst (OneOfThese (0 ∷ 2 ∷ 3 ∷ [])) (e ∙ ap reading (page_is b h)) k in
-      ⊎_elim (λ y. absurd (omega arith)) (⊎_elim (λ y. absurd (omega arith)) (λ y. absurd (omega arith))) z)
-
-  pub no_directory : OneOfThese (0 ∷ 1 ∷ 3 ∷ []) x → as_directory b ≡ none
-  unfolding reading
-  no_directory k = by-option (as_directory b) (λ h. h) (λ a h. let z = subst (OneOfThese (0 ∷ 1 ∷ 3 ∷ [])) (e ∙ ap reading (directory_is b h)) k in
-      ⊎_elim (λ y. absurd (omega arith)) (⊎_elim (λ y. absurd (omega arith)) (λ y. absurd (omega arith))) z)
+pub no_directory : (b : Block) → ((n l : ℕ) → reading b ≡ Some (read.Directory n l) → ⊥) → as_directory b ≡ none
+unfolding reading
+no_directory malformed n = refl
+no_directory (header h) n = refl
+no_directory (page t l ts) n = refl
+no_directory (directory l es) n = absurd (n (length es) l refl)

@@ -1,5 +1,6 @@
 -- What the cursor finds at a place of a block.
 use Rattle.basics.proofs.Kit.{◌≡◌, sym, ap, ◌∙◌, Bool, true, false, List, ℕ, ◌+◌, ◌%◌, ◌≤◌, ◌<◌, ◌-◌, leb, ltb, length, drop, get_or, length-drop, get_or-drop, le-leb, lt-leb, arith}
+use Rattle.std.specs.Prelude.{Some, None}
 use Rattle.basics.specs.Basics.{if'◌then◌else◌}
 use Rattle.basics.proofs.Facts.{by}
 use Rattle.block_forms.specs.Limits.{payload_limit, record_head, owner_width, mark_value, committed_value, block_size}
@@ -10,7 +11,6 @@ use Rattle.block_forms.specs.Bytes.{owner_as}
 use Rattle.block_forms.specs.declared.Owner.{Owner}
 use Rattle.block_forms.proofs.ReadTuples.{owner_part, owner_size_lem}
 use Rattle.block_reader.specs.Answers.{record_at, next_at}
-use Rattle.block_reader.specs.declared.Next.TheVariants.{Found, Bad}
 
 -- the ninth byte of the record at a place
 abbrev pub flags_at : List ℕ → ℕ → ℕ
@@ -47,12 +47,12 @@ module _ (xs : List ℕ) (at : ℕ) (l : length xs ≡ block_size) where
   left : length (drop at xs) ≡ block_size - at
   left = rw (length-drop at xs, l)
 
-  pub none_far : block_size - record_head < at → next_at xs at ≡ Bad
+  pub none_far : block_size - record_head < at → next_at xs at ≡ None
   unfolding next_at is_record if'◌then◌else◌
   none_far h = rw (left, lt-leb record_head (block_size - at) (omega arith))
 
   module _ (n : at ≤ block_size - record_head) where
-    pub none_long : payload_limit < flags_at xs at % mark_value → next_at xs at ≡ Bad
+    pub none_long : payload_limit < flags_at xs at % mark_value → next_at xs at ≡ None
     unfolding next_at is_record if'◌then◌else◌
     none_long h = rw (left, le-leb record_head (block_size - at) (omega arith), get_or-drop at xs 8 0, lt-leb (flags_at xs at % mark_value) payload_limit h)
 
@@ -61,36 +61,38 @@ module _ (xs : List ℕ) (at : ℕ) (l : length xs ≡ block_size) where
       unfolding is_record
       fits = rw (left, le-leb record_head (block_size - at) (omega arith), get_or-drop at xs 8 0, le-leb (flags_at xs at % mark_value) payload_limit p, taken_at xs at, t)
 
-      pub none_short : block_size < at + e → next_at xs at ≡ Bad
+      pub none_short : block_size < at + e → next_at xs at ≡ None
       unfolding next_at if'◌then◌else◌
       none_short h = rw (fits, lt-leb e (block_size - at) (omega arith))
 
       found_whole : {o : Owner} {mark : Bool} → o ≡ owner_as (read_owner (flags_at xs at) (num4 xs (at + record_head))) → mark ≡ read_mark (flags_at xs at) → at + e ≤ block_size
-          → next_at xs at ≡ Found
-          (record {
-            key = num4 xs at;
-            number = num4 xs (at + 4);
-            owner = o;
-            mark = mark;
-            start = at + e - flags_at xs at % mark_value;
-            len = flags_at xs at % mark_value;
-          })
-          (record { at = at + e })
+          → next_at xs at ≡ Some (
+            record {
+              key = num4 xs at;
+              number = num4 xs (at + 4);
+              owner = o;
+              mark = mark;
+              start = at + e - flags_at xs at % mark_value;
+              len = flags_at xs at % mark_value;
+            },
+            record { at = at + e },
+          )
       unfolding next_at record_at if'◌then◌else◌
       found_whole eo em h = rw (fits, le-leb e (block_size - at) (omega arith), ← eo, ← em, start_at (flags_at xs at) (num4 xs (at + record_head)) at, taken_at xs at, t)
 
       pub found_as : {k n w : ℕ} {o : Owner} {mark : Bool} → k ≡ num4 xs at → n ≡ num4 xs (at + 4) → w ≡ (if' ltb (flags_at xs at) committed_value then num4 xs (at + record_head) else 0)
           → o ≡ owner_as (read_owner (flags_at xs at) w) → mark ≡ read_mark (flags_at xs at) → at + e ≤ block_size
-          → Found
-          (record {
-            key = k;
-            number = n;
-            owner = o;
-            mark = mark;
-            start = at + e - flags_at xs at % mark_value;
-            len = flags_at xs at % mark_value;
-          })
-          (record { at = at + e })
+          → Some (
+            record {
+              key = k;
+              number = n;
+              owner = o;
+              mark = mark;
+              start = at + e - flags_at xs at % mark_value;
+              len = flags_at xs at % mark_value;
+            },
+            record { at = at + e },
+          )
           ≡ next_at xs at
       found_as key number word owner marked h =
           rw (key, number) (sym (found_whole (owner ∙ ap owner_as (ap (read_owner (flags_at xs at)) word ∙ word_read (flags_at xs at) (num4 xs (at + record_head)))) marked h))

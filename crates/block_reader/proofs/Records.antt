@@ -1,5 +1,6 @@
 -- The record that the cursor finds is the tuple that is read there.
-use Rattle.basics.proofs.Kit.{◌≡◌, refl, true, false, List, ℕ, ◌+◌, ◌%◌, ◌≤◌, add-zero, add_assoc, length, drop, length-take, length-drop, drop-drop, get_or-drop, arith}
+use Rattle.basics.proofs.Kit.{◌≡◌, refl, ap, true, false, List, ℕ, ◌+◌, ◌%◌, ◌≤◌, add-zero, add_assoc, length, drop, length-take, length-drop, drop-drop, get_or-drop, arith}
+use Rattle.std.specs.Prelude.{Some, None}
 use Rattle.basics.proofs.Facts.{by}
 use Rattle.basics.proofs.Elements.{all_drop}
 use Rattle.basics.specs.Basics.{if'◌then◌else◌}
@@ -12,13 +13,15 @@ use Rattle.block_forms.specs.declared.Record.{Record}
 use Rattle.block_forms.proofs.ReadTuples.{whole_parts, owner_size_lem, owner_same, read_fits}
 use Rattle.block_reader.specs.Answers.{record_at, next_at}
 use Rattle.block_reader.specs.declared.Cursor.{Cursor}
-use Rattle.block_reader.specs.declared.Next.TheVariants.{Found, Bad}
 use Rattle.block_reader.proofs.Cursors.{flags_at, taken_at}
 
 num4_drop : (xs : List ℕ) (at n : ℕ) → num4 (drop at xs) n ≡ num4 xs (at + n)
 unfolding num4
 num4_drop xs at n =
     rw (get_or-drop at xs n 0, get_or-drop at xs (n + 1) 0, get_or-drop at xs (n + 2) 0, get_or-drop at xs (n + 3) 0, add_assoc at n 1, add_assoc at n 2, add_assoc at n 3)
+
+same_pair : {A B : Type 0} {p q : A × B} → Some p ≡ Some q → (p.0 ≡ q.0) × (p.1 ≡ q.1)
+same_pair {A} {B} {p} {q} e = let k : p ≡ q = cc in (ap (λ (z : A × B). z.0) k, ap (λ (z : A × B). z.1) k)
 
 module _ (xs : List ℕ) (at : ℕ) where
   -- the record at a place is the tuple that is read there
@@ -61,20 +64,19 @@ module _ (xs : List ℕ) (at : ℕ) where
     pub next : c.at ≡ at + record_length (drop at xs)
     pub ends : c.at ≤ length xs
 
-  pub found_is : {r : Record} {c : Cursor} → at ≤ length xs → Found r c ≡ next_at xs at → Found-is r c
+  pub found_is : {r : Record} {c : Cursor} → at ≤ length xs → Some (r, c) ≡ next_at xs at → Found-is r c
   unfolding next_at if'◌then◌else◌
   found_is {r} {c} room e =
       by (is_record (drop at xs))
       (λ w.
-      let k : Found r c ≡ Found (record_at xs at) (record { at = at + record_length (drop at xs) }) = rw w at e in
-      let er : r ≡ record_at xs at = cc in
-      let ec : c ≡ record { at = at + record_length (drop at xs) } = cc in
+      let k : Some (r, c) ≡ Some (record_at xs at, record { at = at + record_length (drop at xs) }) = rw w at e in
+      let q = same_pair k in
       let h = whole_parts (drop at xs) w in
       let d = length-drop at xs in
       let fl = get_or-drop at xs 8 0 in
       let end : (record_at xs at).start + (record_at xs at).len ≤ length xs = omega (arith, record_ends, h.1.1) in
       let l : length (payload_in xs (record_at xs at)) ≡ (record_at xs at).len = simp (length-take, length-drop) (omega arith) in
-      rw (er, ec) (record {
+      rw (q.0, q.1) (record {
         is_whole = w;
         limit = omega (arith, record_length_lem, h.1.0, fl);
         payload = l;
@@ -84,7 +86,7 @@ module _ (xs : List ℕ) (at : ℕ) where
         next = refl;
         ends = omega (arith, h.1.1);
       }))
-      (λ w. let k : Found r c ≡ Bad = rw w at e in let z : ◌≡◌ {A = ℕ} 0 1 = cc in absurd (omega arith))
+      (λ w. let k : Some (r, c) ≡ None = rw w at e in let z : ◌≡◌ {A = ℕ} 0 1 = cc in absurd (omega arith))
 
   -- its owner is in range
   pub found_fits : {r : Record} {c : Cursor} → AllBytes xs → Found-is r c → OwnerFits (owner_is r.owner)
@@ -97,9 +99,9 @@ module _ (xs : List ℕ) (at : ℕ) where
   pub found_appends : {r : Record} {c : Cursor} → length xs ≡ block_size → AllBytes xs → Found-is r c → Appendable at r xs
   found_appends l b g = record { room = omega (arith, g.takes, g.next, g.ends); inside = g.inside; limit = g.limit; owner = found_fits b g }
 
-  pub bad_is : Bad ≡ next_at xs at → is_record (drop at xs) ≡ false
+  pub bad_is : None ≡ next_at xs at → is_record (drop at xs) ≡ false
   unfolding next_at if'◌then◌else◌
   bad_is e =
       by (is_record (drop at xs))
-      (λ w. let k : Bad ≡ Found (record_at xs at) (record { at = at + record_length (drop at xs) }) = rw w at e in let z : ◌≡◌ {A = ℕ} 0 1 = cc in absurd (omega arith))
+      (λ w. let k : None ≡ Some (record_at xs at, record { at = at + record_length (drop at xs) }) = rw w at e in let z : ◌≡◌ {A = ℕ} 0 1 = cc in absurd (omega arith))
       (λ w. w)

@@ -1,17 +1,26 @@
--- The comparison of two lists from an index on: a turn of its loop.
-use Rattle.basics.proofs.Kit.{◌≡◌, sym, ap, ◌∙◌, Bool, ◌&&◌, List, ℕ, ◌+◌, ◌≤◌, ◌<◌, add-one, eqb, length, drop, get_or, drop_of_length-le, drop-cons}
+-- What `!=` of two blocks says: whether they are not the same.
+use Rattle.std.specs.Prelude.{nat_eq}
+use lib.Pointwise.{pointwise}
+use Rattle.basics.proofs.Kit.{◌≡◌, refl, sym, ap, ◌∙◌, Bool, true, false, not, ◌&&◌, List, [], ◌∷◌, ℕ, eqb}
 use Rattle.block_forms.specs.Numbers.{same}
-use Rattle.basics.proofs.Ands.{and_yes, and_assoc}
 
--- what is known of the two lists so far, and what is left to compare
-module _ (a b : List ℕ) (i : ℕ) (ok : Bool) (known : same a b ≡ (ok && same (drop i a) (drop i b))) where
-  pub same_iteration : i < length a → i < length b → same a b ≡ ((ok && eqb (get_or a i 0) (get_or b i 0)) && same (drop (i + 1) a) (drop (i + 1) b))
-  unfolding same
-  same_iteration ha hb =
-      let e : same (drop i a) (drop i b) ≡ (eqb (get_or a i 0) (get_or b i 0) && same (drop (i + 1) a) (drop (i + 1) b)) =
-      rw (drop-cons a i 0 ha, drop-cons b i 0 hb, add-one i) in
-      known ∙ ap (λ (z : Bool). ok && z) e ∙ sym (and_assoc ok (eqb (get_or a i 0) (get_or b i 0)) (same (drop (i + 1) a) (drop (i + 1) b)))
+pointwise_same : (a b : List ℕ) → pointwise nat_eq a b ≡ same a b
+unfolding same
+pointwise_same [] [] = refl
+pointwise_same [] (y ∷ ys) = refl
+pointwise_same (x ∷ xs) [] = refl
+pointwise_same (x ∷ xs) (y ∷ ys) = ap (λ (r : Bool). eqb x y && r) (pointwise_same xs ys)
 
-  pub same_end : length a ≤ i → length b ≤ i → ok ≡ same a b
-  unfolding same
-  same_end ha hb = sym (known ∙ rw (drop_of_length-le a ha, drop_of_length-le b hb) (and_yes ok))
+not_not : (r : Bool) → not (not r) ≡ r
+not_not true = refl
+not_not false = refl
+
+module _ (a b : List ℕ) {r : Bool} (e : r ≡ not (pointwise nat_eq a b)) where
+  known : same a b ≡ not r
+  known = sym (ap not e ∙ not_not (pointwise nat_eq a b) ∙ pointwise_same a b)
+
+  pub differ : r ≡ true → same a b ≡ false
+  differ h = known ∙ ap not h
+
+  pub agree : r ≡ false → same a b ≡ true
+  agree h = known ∙ ap not h

@@ -1,6 +1,7 @@
 -- The cursor goes through a page: at each of its places it finds the record of the next tuple.
 use Rattle.basics.proofs.Kit.{◌≡◌, refl, sym, ap, ◌∙◌, some, none, Option·map, List, [], ◌∷◌, ◌++◌, append_assoc, append-nil, ℕ, suc, ◌+◌, ◌≤◌, ◌<◌, zero, ◌-◌, length, take, drop}
 use Rattle.basics.proofs.Kit.{length-append, drop-drop, take_at, drop_at, drop_of_length-le, arith}
+use Rattle.std.specs.Prelude.{Some, None}
 use Rattle.basics.proofs.Facts.{by-option, never}
 use Rattle.basics.proofs.Lists.{behind_none, behind_two}
 use Rattle.basics.specs.Basics.{if'◌then◌else◌}
@@ -14,7 +15,6 @@ use Rattle.block_forms.proofs.ReadTuples.{split, none_is}
 use Rattle.block_forms.proofs.Laws.{encode_length, page_tuples_lem, page_read}
 use Rattle.block_reader.specs.Answers.{next_at}
 use Rattle.block_reader.specs.declared.Cursor.{Cursor}
-use Rattle.block_reader.specs.declared.Next.TheVariants.{Found, Bad}
 use Rattle.block_reader.proofs.Records.{Found-is, found_is, bad_is}
 
 -- as many tuples are read as are asked for
@@ -38,7 +38,7 @@ passed_start xs n k =
 
 module _ {xs : List ℕ} {n at i : ℕ} {done : List Tuple} (p : Passed xs n at i done) where
   -- a record is missing
-  pub passed_bad : i < n → Bad ≡ next_at xs at → page_tuples n xs ≡ none
+  pub passed_bad : i < n → None ≡ next_at xs at → page_tuples n xs ≡ none
   unfolding read_tuples if'◌then◌else◌
   passed_bad h b =
       let e : n - i ≡ suc (n - (i + 1)) = omega arith in
@@ -107,10 +107,10 @@ module _ {xs : List ℕ} {ts : List Tuple} {at i : ℕ} (w : Walk xs ts at i) wh
 
   module _ (h : i < length ts) where
     -- a page never ends too early
-    pub walk_bad : Bad ≡ next_at xs at → ⊥
+    pub walk_bad : None ≡ next_at xs at → ⊥
     walk_bad e = let k : none ≡ some ts = sym (passed_bad w.passed h e) ∙ w.read in never k
 
-    pub walk_found : {r : Record} {c : Cursor} → Found r c ≡ next_at xs at → Handed xs ts at i r c.at
+    pub walk_found : {r : Record} {c : Cursor} → Some (r, c) ≡ next_at xs at → Handed xs ts at i r c.at
     walk_found {r} {c} e =
         let f = found_is xs at w.passed.room e in
         let x = tuple_of r (payload_in xs r) in

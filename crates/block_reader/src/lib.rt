@@ -1,10 +1,9 @@
 // What 512 bytes are as a block: its fields are read, spelled again and compared; and a page, record by record.
 #![tactic(auto)]
 
-ghost use Rattle.std.specs.Prelude.{◌≡◌, true, ◌+◌, ◌*◌, ◌<◌, ◌≤◌, length, take};
+ghost use Rattle.std.specs.Prelude.{◌≡◌, true, ◌+◌, ◌*◌, ◌≤◌, length, take};
 ghost use Rattle.block_bits.specs.Bits.{bits_in, field};
 ghost use Rattle.block_forms.specs.Limits.{block_size, page_head_size, entries_per_block};
-ghost use Rattle.block_forms.specs.Numbers.{num4, same};
 ghost use Rattle.block_forms.specs.Decode.{read_header, read_entries, header_in, page_in, directory_in, decode_block};
 ghost use Rattle.block_reader.specs.Answers.{next_at, is_page, reading};
 
@@ -19,37 +18,20 @@ pub struct Cursor {
     pub at: usize,
 }
 
-// What stands at a cursor.
+// What a page's head says.
 #[derive(Clone, Copy)]
-pub enum Next {
-    Found(Record, Cursor),
-    Bad,
+pub struct PageHead {
+    pub table: u32,
+    pub count: u32,
+    pub level: u32,
 }
 
 // What a block is. A page's tuples and a directory's entries stay in the block.
 #[derive(Clone, Copy)]
-pub enum Reading {
-    IsHeader(Header),
-    IsPage { table: u32, count: u32, level: u32 },
-    IsDirectory { count: usize, level: u32 },
-    Malformed,
-}
-
-fn wide(x: u8) -> u64
-    ensures { (result ≡ x) × (result < 256) }
-{
-    x as u64
-}
-
-// The number in four bytes, high byte first.
-fn get4(block: &[u8], at: usize) -> u32
-    requires { at + 4 ≤ length block.now }
-    ensures { result ≡ num4 block.now at }
-{
-    (wide(block[at]) * 16777216
-        + wide(block[at + 1]) * 65536
-        + wide(block[at + 2]) * 256
-        + wide(block[at + 3])) as u32
+pub enum Block {
+    Header(Header),
+    Page(PageHead),
+    Directory { count: usize, level: u32 },
 }
 
 impl Cursor {
@@ -62,53 +44,40 @@ impl Cursor {
         }
     }
 
-    // The record at the cursor, if a whole one is there.
-    pub fn next(self, block: &[u8]) -> Next
+    // The record at the cursor, if a whole one is there, and the cursor behind it.
+    pub fn next(self, block: &[u8]) -> Option<(Record, Cursor)>
         requires { length block.now ≡ block_size }
         ensures { result ≡ next_at block.now self.at }
     {
         let at = self.at;
         if LAST_RECORD < at {
-            return Next::Bad;
+            return None;
         }
         let flags = block[at + 8];
         let len = (flags % block_forms::MARK) as usize;
         if PageLayout::PAYLOAD_LIMIT < len {
-            return Next::Bad;
+            return None;
         }
         let tentative = flags < block_forms::COMMITTED;
         let end = at + PageLayout::record_size(len, tentative);
         if block_forms::BLOCK_SIZE < end {
-            return Next::Bad;
+            return None;
         }
-        let mut word: u32 = 0;
-        if tentative {
-            word = get4(block, at + PageLayout::RECORD_HEAD);
-        }
+        let word = if tentative {
+            block_forms::get4(block, at + PageLayout::RECORD_HEAD)
+        } else {
+            0
+        };
         let found = Record {
-            key: get4(block, at),
-            number: get4(block, at + 4),
+            key: block_forms::get4(block, at),
+            number: block_forms::get4(block, at + 4),
             owner: block_forms::owner_of(flags, word),
             mark: block_forms::mark_of(flags),
             start: end - len,
-            len: len,
+            len,
         };
-        Next::Found(found, Cursor { at: end })
+        Some((found, Cursor { at: end }))
     }
-}
-
-// Whether the two blocks are the same. All bytes are compared, without a branch, since nearly every block that is read is well formed.
-fn same_block(a: &[u8], b: &[u8]) -> bool
-    requires { (length a.now ≡ block_size) × (length b.now ≡ block_size) }
-    ensures { result ≡ same a.now b.now }
-{
-    let mut ok = true;
-    let mut i: usize = 0;
-    while i < block_forms::BLOCK_SIZE {
-        ok = ok & (a[i] == b[i]);
-        i = i + 1;
-    }
-    ok
 }
 
 // The number in at most 32 bits of a block.
@@ -120,43 +89,31 @@ fn get32(block: &[u8; block_forms::BLOCK_SIZE], at: usize, width: usize) -> u32
 }
 
 // The page that a block spells: its head and then its records, one by one, are copied into an empty block, and the two are compared.
-fn read_page(block: &[u8]) -> Reading
-    requires { length block.now ≡ block_size }
+fn read_page(block: &[u8; block_forms::BLOCK_SIZE]) -> Option<Block>
     ensures { result ≡ reading (page_in block.now) }
 {
-    let table = block_bits::get_bits(block, 4, 3) as u32;
-    let count = block_bits::get_bits(block, 7, 6) as u32;
-    let bytes = block_bits::get_bits(block, 13, 9) as u32;
-    let level = block_bits::get_bits(block, 22, 32) as u32;
+    let table = get32(block, 4, 3);
+    let count = get32(block, 7, 6);
+    let bytes = get32(block, 13, 9);
+    let level = get32(block, 22, 32);
     let mut copy = [0u8; block_forms::BLOCK_SIZE];
     block_forms::begin_page(&mut copy, table, count, bytes, level);
-    let mut at: usize = PageLayout::HEAD_SIZE;
-    let mut i: u32 = 0;
-    while i < count {
-        match (Cursor { at: at }).next(block) {
-            Next::Found(r, _) => {
-                at = block_forms::append(&mut copy, at, r, block);
-            }
-            Next::Bad => {
-                return Reading::Malformed;
-            }
-        }
-        i = i + 1;
+    let mut at = PageLayout::HEAD_SIZE;
+    for _ in 0..count {
+        let (r, _) = Cursor { at }.next(block)?;
+        at = block_forms::append(&mut copy, at, r, block);
     }
-    if at != PageLayout::HEAD_SIZE + bytes as usize {
-        return Reading::Malformed;
+    if at != PageLayout::HEAD_SIZE + bytes as usize || copy != *block {
+        return None;
     }
-    if same_block(&copy, block) {
-        return Reading::IsPage {
-            table: table,
-            count: count,
-            level: level,
-        };
-    }
-    Reading::Malformed
+    Some(Block::Page(PageHead {
+        table,
+        count,
+        level,
+    }))
 }
 
-// The entries of a directory's block, as many as count says.
+// The entries of a directory's block, as many as count says; the array is for the most that there may be, since the store has no heap.
 pub fn read_entries(
     block: &[u8; block_forms::BLOCK_SIZE],
     count: usize,
@@ -165,33 +122,28 @@ pub fn read_entries(
     ensures { take count result ≡ read_entries block.now 64 count }
 {
     let mut out = [0u16; block_forms::ENTRIES_PER_BLOCK];
-    let mut i: usize = 0;
-    while i < count {
+    for i in 0..count {
         out[i] = block_bits::get_bits(block, 64 + 12 * i, 12) as u16;
-        i = i + 1;
     }
     out
 }
 
 // The directory that a block spells: its fields are read and spelled again, and the two blocks are compared.
-fn read_directory(block: &[u8; block_forms::BLOCK_SIZE]) -> Reading
+fn read_directory(block: &[u8; block_forms::BLOCK_SIZE]) -> Option<Block>
     ensures { result ≡ reading (directory_in block.now) }
 {
     let count = block_bits::get_bits(block, 4, 9) as usize;
     if block_forms::ENTRIES_PER_BLOCK < count {
-        return Reading::Malformed;
+        return None;
     }
     let level = get32(block, 13, 32);
     let entries = read_entries(block, count);
     let mut copy = [0u8; block_forms::BLOCK_SIZE];
     block_forms::spell_directory(&mut copy, level, &entries, count);
-    if same_block(&copy, block) {
-        return Reading::IsDirectory {
-            count: count,
-            level: level,
-        };
+    if copy != *block {
+        return None;
     }
-    Reading::Malformed
+    Some(Block::Directory { count, level })
 }
 
 // The fields of a header's block.
@@ -213,24 +165,24 @@ fn get_header(block: &[u8; block_forms::BLOCK_SIZE]) -> Header
 }
 
 // The header that a block spells: its fields are read and spelled again, and the two blocks are compared.
-fn read_header(block: &[u8; block_forms::BLOCK_SIZE]) -> Reading
+fn read_header(block: &[u8; block_forms::BLOCK_SIZE]) -> Option<Block>
     ensures { result ≡ reading (header_in block.now) }
 {
     let h = get_header(block);
     let mut copy = [0u8; block_forms::BLOCK_SIZE];
     block_forms::spell_header(&mut copy, h);
-    if same_block(&copy, block) {
-        return Reading::IsHeader(h);
+    if copy != *block {
+        return None;
     }
-    Reading::Malformed
+    Some(Block::Header(h))
 }
 
-// What a block that is known to be a page is: its head is read, and nothing is tested.
-pub fn known_page(block: &[u8; block_forms::BLOCK_SIZE]) -> Reading
+// The head of a block that is known to be a page: nothing is tested.
+pub fn known_page(block: &[u8; block_forms::BLOCK_SIZE]) -> PageHead
     requires { is_page (decode_block block.now) ≡ true }
-    ensures { result ≡ reading (decode_block block.now) }
+    ensures { Some (Block.Page result) ≡ reading (decode_block block.now) }
 {
-    Reading::IsPage {
+    PageHead {
         table: get32(block, 4, 3),
         count: get32(block, 7, 6),
         level: get32(block, 22, 32),
@@ -238,15 +190,13 @@ pub fn known_page(block: &[u8; block_forms::BLOCK_SIZE]) -> Reading
 }
 
 // What a block is: by its first four bits a header, a page or a directory, and any other is refused.
-pub fn read_block(block: &[u8; block_forms::BLOCK_SIZE]) -> Reading
+pub fn read_block(block: &[u8; block_forms::BLOCK_SIZE]) -> Option<Block>
     ensures { result ≡ reading (decode_block block.now) }
 {
-    let kind = get32(block, 0, 4);
-    match kind {
+    match get32(block, 0, 4) {
         1 => read_header(block),
         2 => read_page(block),
         3 => read_directory(block),
-        0 | 4..=15 => Reading::Malformed,
-        _ => Reading::Malformed,
+        _ => None,
     }
 }

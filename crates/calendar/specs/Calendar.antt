@@ -1,5 +1,5 @@
 -- Bookings, and the weekly calendar of a dish: which minutes are open, and when a booking is open throughout.
-use Rattle.std.specs.Prelude.{ℕ, ◌+◌, ◌*◌, ◌-◌, ◌%◌, ◌<◌, ◌≡◌, Bool, true, ◌&&◌, ◌||◌, List, [], ◌∷◌, length, leb, ltb, eqb}
+use Rattle.std.specs.Prelude.{ℕ, ◌+◌, ◌*◌, ◌-◌, ◌%◌, ◌<◌, ◌≡◌, Bool, true, ◌&&◌, ◌||◌, List, [], ◌∷◌, length, get_or, leb, ltb, eqb}
 use Rattle.basics.specs.Basics.{any, all, every, from}
 use Rattle.calendar.specs.declared.Hours.{Hours}
 
@@ -32,6 +32,10 @@ rows_of (a ∷ []) = []
 rows_of (a ∷ b ∷ []) = []
 rows_of (a ∷ b ∷ c ∷ []) = []
 rows_of (a ∷ b ∷ c ∷ d ∷ bs) = record { start = 256 * a + b; length = 256 * c + d } ∷ rows_of bs
+
+-- the row in four bytes
+abbrev pub row_in : List ℕ → Hours
+row_in row = record { start = 256 * get_or row 0 0 + get_or row 1 0; length = 256 * get_or row 2 0 + get_or row 3 0 }
 
 -- a row's start is 0 to 10,079, its length 1 to 10,080
 unfoldable pub in_range : Hours → Bool

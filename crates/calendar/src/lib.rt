@@ -2,8 +2,8 @@
 // its first one, and those just behind a row. Where those of them that it has are open, so is every minute between them.
 #![tactic(auto)]
 
-ghost use Rattle.std.specs.Prelude.{◌≡◌, true, ◌∷◌, ◌+◌, ◌*◌, ◌<◌, ◌≤◌, length, drop, get_or};
-ghost use Rattle.calendar.specs.Calendar.{minutes, week, row_size, rows_of, in_range, is_calendar, until, covers, is_open, open_throughout, end_of, EdgeAsked, edge_open};
+ghost use Rattle.std.specs.Prelude.{◌≡◌, true, ◌+◌, ◌*◌, ◌<◌, length};
+ghost use Rattle.calendar.specs.Calendar.{minutes, week, row_size, rows_of, row_in, in_range, is_calendar, until, covers, is_open, open_throughout, end_of, EdgeAsked, edge_open};
 
 // The minutes of a week, the most rows of a calendar, and the bytes of a row.
 const WEEK: u32 = 10080;
@@ -13,7 +13,7 @@ const ROW_LIMIT: usize = 32;
 const ROW_SIZE: usize = 4;
 
 // A row: open from minute `start` of the week on, for `length` minutes, past Sunday into Monday if they reach so far.
-#[derive(Clone, Copy)]
+#[derive(Clone, Copy, Debug, PartialEq, Eq)]
 pub struct Hours {
     pub start: u32,
     pub length: u32,
@@ -21,32 +21,31 @@ pub struct Hours {
 
 // ---- bytes
 
-// Two bytes, high byte first.
-fn two_bytes(s: &[u8], at: usize) -> u32
-    requires { at + 2 ≤ length s.now }
-    ensures { (result ≡ 256 * get_or s.now at 0 + get_or s.now (at + 1) 0) × (result < 65536) }
+// A number of two bytes.
+fn two_bytes(high: u8, low: u8) -> u32
+    ensures { (result ≡ 256 * high + low) × (result < 65536) }
 {
-    s[at] as u32 * 256 + s[at + 1] as u32
+    u32::from(u16::from_be_bytes([high, low]))
 }
 
-// A booking's length in minutes: the first two bytes of its payload. A shorter payload has none.
+// A booking's length in minutes: the first two bytes of its payload, high byte first. A shorter payload has none.
 pub fn minutes(payload: &[u8]) -> u32
     ensures { (result ≡ minutes payload.now) × (result < 65536) }
 {
-    if payload.len() < 2 {
-        return 0;
+    match payload {
+        [high, low, ..] => two_bytes(*high, *low),
+        _ => 0,
     }
-    two_bytes(payload, 0)
 }
 
-// The row whose bytes start at `at`.
-fn row_at(hours: &[u8], at: usize) -> Hours
-    requires { at + row_size ≤ length hours.now }
-    ensures { rows_of (drop at hours.now) ≡ result ∷ rows_of (drop (at + row_size) hours.now) }
+// The row in these four bytes.
+fn row_of(row: &[u8]) -> Hours
+    requires { length row.now ≡ row_size }
+    ensures { result ≡ row_in row.now }
 {
     Hours {
-        start: two_bytes(hours, at),
-        length: two_bytes(hours, at + 2),
+        start: two_bytes(row[0], row[1]),
+        length: two_bytes(row[2], row[3]),
     }
 }
 
@@ -56,28 +55,18 @@ fn row_at(hours: &[u8], at: usize) -> Hours
 fn in_range(h: Hours) -> bool
     ensures { result ≡ in_range h }
 {
-    (h.start < WEEK) & (0 < h.length) & (h.length <= WEEK)
+    h.start < WEEK && 0 < h.length && h.length <= WEEK
 }
 
 // Whether these are at most 32 rows, the last one whole, each in range.
 pub fn is_calendar(hours: &[u8]) -> bool
     ensures { result ≡ is_calendar hours.now }
 {
-    let n = hours.len();
-    if ROW_LIMIT * ROW_SIZE < n {
-        return false;
-    }
-    if n % ROW_SIZE != 0 {
-        return false;
-    }
-    let mut at: usize = 0;
-    while at < n {
-        if !in_range(row_at(hours, at)) {
-            return false;
-        }
-        at += ROW_SIZE;
-    }
-    true
+    hours.len() <= ROW_LIMIT * ROW_SIZE
+        && hours.len() % ROW_SIZE == 0
+        && hours
+            .chunks_exact(ROW_SIZE)
+            .all(|row| in_range(row_of(row)))
 }
 
 // ---- minutes of the week
@@ -87,10 +76,7 @@ fn until(a: u32, b: u32) -> u32
     requires { (a < week) × (b < week) }
     ensures { result ≡ until a b }
 {
-    if b < a {
-        return b + WEEK - a;
-    }
-    b - a
+    if b < a { b + WEEK - a } else { b - a }
 }
 
 // Whether the row covers the minute.
@@ -106,13 +92,10 @@ fn is_open(hours: &[u8], minute: u32) -> bool
     requires { (is_calendar hours.now ≡ true) × (minute < week) }
     ensures { result ≡ is_open (rows_of hours.now) minute }
 {
-    let n = hours.len();
-    let mut at: usize = 0;
-    while at < n {
-        if covers(row_at(hours, at), minute) {
+    for row in hours.chunks_exact(ROW_SIZE) {
+        if covers(row_of(row), minute) {
             return true;
         }
-        at += ROW_SIZE;
     }
     false
 }
@@ -132,10 +115,7 @@ fn edge_open(hours: &[u8], first: u32, length: u32, edge: u32) -> bool
     requires { EdgeAsked hours.now first edge }
     ensures { result ≡ edge_open (rows_of hours.now) first length edge }
 {
-    if length <= until(first, edge) {
-        return true;
-    }
-    is_open(hours, edge)
+    length <= until(first, edge) || is_open(hours, edge)
 }
 
 // Whether every minute of a booking that starts at minute `key`, counted from a Monday midnight, and lasts `length` minutes is open. However
@@ -148,13 +128,10 @@ pub fn open_throughout(hours: &[u8], key: u32, length: u32) -> bool
     if !edge_open(hours, first, length, first) {
         return false;
     }
-    let n = hours.len();
-    let mut at: usize = 0;
-    while at < n {
-        if !edge_open(hours, first, length, end_of(row_at(hours, at))) {
+    for row in hours.chunks_exact(ROW_SIZE) {
+        if !edge_open(hours, first, length, end_of(row_of(row))) {
             return false;
         }
-        at += ROW_SIZE;
     }
     true
 }

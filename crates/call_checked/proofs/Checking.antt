@@ -9,9 +9,12 @@ use Rattle.model.specs.Calls.{with_room}
 use Rattle.model.specs.Checked.{no_calendar, no_length, some_closed, hours_tests, insert_checked_call}
 use Rattle.memory_layout.specs.Flat.{flat_of}
 use Rattle.memory_layout.specs.Store.{holds_store, store_of}
-use Rattle.call_contracts.specs.Shape.{Answers}
-use Rattle.call_contracts.specs.declared.Answer.{Answer}
-use Rattle.call_contracts.specs.declared.Answer.TheVariants.{Refused}
+use Rattle.std.specs.Prelude.{Err}
+use Rattle.refusals.specs.declared.Refusal.{Refusal}
+use Rattle.refusals.specs.declared.Refusal.TheVariants.{NoStore}
+use Rattle.refusals.specs.Numbers.{number}
+use Rattle.refusals.proofs.Numbers.{number_positive}
+use Rattle.call_contracts.specs.Shape.{Answer, Answers}
 use Rattle.call_contracts.proofs.Answering.{answers_4, answers_refused, room_refused}
 use Rattle.call_transactions.specs.Refusals.{first_refusal}
 use Rattle.call_transactions.proofs.Refusing.{stop_here, go_on, refusal_none, Numbered, unless_stop, unless_pass}
@@ -61,22 +64,23 @@ module _ (t k : ℕ) (bs hours : List ℕ) where
   unfolding hours_tests no_table no_calendar no_length some_closed
   numbered = (omega arith, (omega arith, (omega arith, (omega arith, tt))))
 
-  module _ (tx : ℕ) (m : List ℕ) {v : ℕ} (ev : v ≡ first_refusal (hours_tests t k bs hours)) where
+  module _ (tx : ℕ) (m : List ℕ) (room : Bool) where
     -- no test holds: it is the insert
-    pub is_insert : (room : Bool) → v ≡ 0 → (r : Answer) (m' : List ℕ) → Answers (with_room room (insert_call tx t k bs)) m r m'
+    pub is_insert : 0 ≡ first_refusal (hours_tests t k bs hours) → (r : Answer) (m' : List ℕ) → Answers (with_room room (insert_call tx t k bs)) m r m'
         → Answers (with_room room (insert_checked_call tx t k bs hours)) m r m'
     unfolding insert_checked_call
-    is_insert room z r m' a =
+    is_insert e r m' a =
         subst (λ (call : Store → Outcome). Answers (with_room room call) m r m')
-        (fun_ext (λ s. sym (unless_pass (hours_tests t k bs hours) s (insert_call tx t k bs s) numbered (sym ev ∙ z)))) a
+        (fun_ext (λ s. sym (unless_pass (hours_tests t k bs hours) s (insert_call tx t k bs s) numbered (sym e)))) a
 
     -- one holds: it is refused, by 4 where there is no store
-    pub refuses : (room : Bool) → (v ≡ 0 → ⊥) → {r : Answer} → r ≡ Refused (if' holds_store m then v else 4) → Answers (with_room room (insert_checked_call tx t k bs hours)) m r m
+    pub refuses : (e : Refusal) → number e ≡ first_refusal (hours_tests t k bs hours) → (r : Refusal) → r ≡ (if' holds_store m then e else NoStore)
+        → Answers (with_room room (insert_checked_call tx t k bs hours)) m (Err r) m
     unfolding insert_checked_call if'◌then◌else◌
-    refuses room nz q =
+    refuses e ev r q =
         let s = store_of (flat_of m) in
         let call = insert_checked_call tx t k bs hours in
-        let stops = unless_stop (hours_tests t k bs hours) s (insert_call tx t k bs s) (λ z. nz (ev ∙ z)) ∙ ap (λ n. gives (model.refused n) s) (sym ev) in
-        subst (λ a. Answers (with_room room call) m a m) (sym q) (by (holds_store m)
-        (λ h. rw h (room_refused room call m v m (answers_refused call m v h stops)))
-        (λ h. rw h (room_refused room call m 4 m (answers_4 call m h))))
+        let stops = unless_stop (hours_tests t k bs hours) s (insert_call tx t k bs s) (λ z. omega (arith, ev, z, number_positive e)) ∙ ap (λ n. gives (model.refused n) s) (sym ev) in
+        subst (λ a. Answers (with_room room call) m (Err a) m) (sym q) (by (holds_store m)
+        (λ h. rw h (room_refused room call m e m (answers_refused call m e h stops)))
+        (λ h. rw h (room_refused room call m NoStore m (answers_4 call m h))))

@@ -5,40 +5,42 @@ ghost use Rattle.model.specs.Calls.{with_room};
 ghost use Rattle.model.specs.Checked.{hours_tests, insert_checked_call};
 ghost use Rattle.memory_layout.specs.Store.{holds_store};
 ghost use Rattle.call_contracts.specs.Shape.{Answers};
-ghost use Rattle.call_contracts.specs.declared.Answer.TheVariants.{Refused};
+ghost use Rattle.refusals.specs.declared.Refusal.TheVariants.{NoStore};
+ghost use Rattle.refusals.specs.Numbers.{number_in};
 ghost use Rattle.call_transactions.specs.Refusals.{first_refusal};
 
 use call_contracts::Answer;
+use refusals::Refusal;
 
-// 10 table above 7; 26 hours that are no calendar; 27 a payload without a length; 28 some minute of the booking is closed; else 0.
-fn hours_refusal(table: u64, key: u32, payload: &[u8], hours: &[u8]) -> u64
-    ensures { result ≡ first_refusal (hours_tests table key payload.now hours.now) }
+// 10 table above 7; 26 hours that are no calendar; 27 a payload without a length; 28 some minute of the booking is closed.
+fn check_hours(table: u64, key: u32, payload: &[u8], hours: &[u8]) -> Result<(), Refusal>
+    ensures { number_in result ≡ first_refusal (hours_tests table key payload.now hours.now) }
 {
     if call_transactions::TABLE_LIMIT < table {
-        return 10;
+        return Err(Refusal::TableRange);
     }
     if !calendar::is_calendar(hours) {
-        return 26;
+        return Err(Refusal::BadHours);
     }
     let n = calendar::minutes(payload);
     if n == 0 {
-        return 27;
+        return Err(Refusal::BookingEmpty);
     }
     if !calendar::open_throughout(hours, key, n) {
-        return 28;
+        return Err(Refusal::Closed);
     }
-    0
+    Ok(())
 }
 
-// Refuses by 4 if the memory holds no store, which comes first of all tests, else by v. It is asked only where another test refuses: insert
-// asks it too.
-fn refused(m: &[u8], v: u64) -> Answer
-    ensures { result ≡ Refused (if' holds_store m.now then v else 4) }
+// The refusal of a call that fails a later test: 4 if the memory holds no store, which comes first of all tests. It is asked only where another
+// test refuses: insert asks it too.
+fn refused(m: &[u8], refusal: Refusal) -> Refusal
+    ensures { result ≡ if' holds_store m.now then refusal else NoStore }
 {
     if !memory_layout::holds_store(m) {
-        return Answer::Refused(4);
+        return Refusal::NoStore;
     }
-    Answer::Refused(v)
+    refusal
 }
 
 pub fn insert_checked(
@@ -51,11 +53,10 @@ pub fn insert_checked(
 ) -> Answer
     ensures { Answers (insert_checked_call transaction table key payload.now hours.now) m.old result m.new }
 {
-    let v = hours_refusal(table, key, payload, hours);
-    if v == 0 {
-        return call_transactions::insert(m, transaction, table, key, payload);
+    if let Err(refusal) = check_hours(table, key, payload, hours) {
+        return Err(refused(m, refusal));
     }
-    refused(m, v)
+    call_transactions::insert(m, transaction, table, key, payload)
 }
 
 // The same, if there is room for the record of it: the last test. A checked insert does not call it, since handing the lent parts on once more takes
@@ -71,9 +72,8 @@ pub fn insert_checked_if(
 ) -> Answer
     ensures { Answers (with_room room (insert_checked_call transaction table key payload.now hours.now)) m.old result m.new }
 {
-    let v = hours_refusal(table, key, payload, hours);
-    if v == 0 {
-        return call_transactions::write_if(m, room, true, transaction, table, key, false, payload);
+    if let Err(refusal) = check_hours(table, key, payload, hours) {
+        return Err(refused(m, refusal));
     }
-    refused(m, v)
+    call_transactions::write_if(m, room, true, transaction, table, key, false, payload)
 }

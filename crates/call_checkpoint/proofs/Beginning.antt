@@ -24,51 +24,49 @@ use Rattle.model.specs.State as model
 abbrev pub block_in : Entry → ℕ
 block_in e = e.block
 
--- the first p of n entries are named
-pub record Naming (m m' : List ℕ) (n p : ℕ) : Type 0 where
-  pub whole : n ≡ length (flat_of m).entries
-  pub inside : p ≤ n
+-- the first p entries are named
+pub record Naming (m m' : List ℕ) (p : ℕ) : Type 0 where
+  pub inside : p ≤ length (flat_of m).entries
   pub becomes : Becomes m m' (with_named (flat_of m) (map block_in (take p (flat_of m).entries)))
 
-pub naming_start : (m : List ℕ) (n : ℕ) → Room m → (flat_of m).named ≡ [] → n ≡ length (flat_of m).entries → Naming m m n 0
-naming_start m n r e w =
-    record { whole = w; inside = omega arith; becomes = record { size = refl; room = r; flat = ap (with_named (flat_of m)) e } }
+pub naming_start : (m : List ℕ) → Room m → (flat_of m).named ≡ [] → Naming m m 0
+naming_start m r e =
+    record { inside = omega arith; becomes = record { size = refl; room = r; flat = ap (with_named (flat_of m)) e } }
 
-module _ {m m' : List ℕ} {n p : ℕ} (c : Naming m m' n p) where
+module _ {m m' : List ℕ} {p : ℕ} (c : Naming m m' p) where
   flat_is : flat_of m' ≡ with_named (flat_of m) (map block_in (take p (flat_of m).entries))
   flat_is = c.becomes.flat
 
-  pub naming_end : n ≤ p → Becomes m m' (with_named (flat_of m) (map block_in (flat_of m).entries))
+  pub naming_end : length (flat_of m).entries ≤ p → Becomes m m' (with_named (flat_of m) (map block_in (flat_of m).entries))
   naming_end h =
       record {
         size = c.becomes.size;
         room = c.becomes.room;
-        flat = flat_is ∙ ap (λ (es : List Entry). with_named (flat_of m) (map block_in es)) (take_all p (flat_of m).entries (omega (arith, c.whole)));
+        flat = flat_is ∙ ap (λ (es : List Entry). with_named (flat_of m) (map block_in es)) (take_all p (flat_of m).entries h);
       }
 
-  module _ (h : p < n) where
+  module _ (h : p < length (flat_of m).entries) where
     pub naming_in : p < length (flat_of m').entries
-    naming_in = omega (arith, c.whole, ap (λ (f : Flat). length f.entries) flat_is)
+    naming_in = omega (arith, h, ap (λ (f : Flat). length f.entries) flat_is)
 
     pub naming_room : holds_store m ≡ true → length (flat_of m').named < (flat_of m').head.capacity
     naming_room held =
         let es : List Entry = take p (flat_of m).entries in
         let a : length (flat_of m').named ≡ length (map block_in es) = ap (λ (f : Flat). length f.named) flat_is in
         let b : (flat_of m').head.capacity ≡ (flat_of m).head.capacity = ap (λ (f : Flat). f.head.capacity) flat_is in
-        omega (arith, a, b, length-map es block_in, length-take-le p (flat_of m).entries (omega (arith, c.whole)), c.whole, pages_few m held)
+        omega (arith, a, b, length-map es block_in, length-take-le p (flat_of m).entries c.inside, h, pages_few m held)
 
     pub naming_low : {b : ℕ} → b ≡ (entry_in (flat_of m') p).block → b < block_limit
     naming_low e = omega (arith, entry_block m' p (omega (arith, entries_length m', naming_in)))
 
     pub naming_iteration : {b : ℕ} → b ≡ (entry_in (flat_of m') p).block → {m2 : List ℕ} → Becomes m' m2 (with_named (flat_of m') ((flat_of m').named ++ b ∷ []))
-        → Naming m m2 n (p + 1)
+        → Naming m m2 (p + 1)
     naming_iteration {b} q u =
         let es : List Entry = (flat_of m).entries in
         let q2 : b ≡ (get_or es p no_entry).block = q ∙ ap (λ (f : Flat). (get_or f.entries p no_entry).block) flat_is in
-        let k : take (p + 1) es ≡ take p es ++ get_or es p no_entry ∷ [] = ap (λ (z : ℕ). take z es) (add-one p) ∙ take-suc es p no_entry (omega (arith, c.whole)) in
+        let k : take (p + 1) es ≡ take p es ++ get_or es p no_entry ∷ [] = ap (λ (z : ℕ). take z es) (add-one p) ∙ take-suc es p no_entry h in
         record {
-          whole = c.whole;
-          inside = omega arith;
+          inside = omega (arith, h);
           becomes = record {
             size = u.size ∙ c.becomes.size;
             room = u.room;

@@ -67,14 +67,14 @@ module _ {ws : List ℕ} {i : ℕ} (k : NamedBefore ws i) where
   unfolding is_named
   named_iteration j q h e = subst (NamedBefore ws) (sym q) (named_miss h (eqb-false _ 0 (not-true _ e)))
 
-pub named_four : {ws : List ℕ} {i : ℕ} → NamedBefore ws i → i + 4 ≤ length ws → four_named ws i ≡ true → NamedBefore ws (i + 4)
+pub named_four : {ws : List ℕ} {i : ℕ} → NamedBefore ws i → i + 4 ≤ length ws → four_named ws i ≡ true → (j : ℕ) → j ≡ i + 4 → NamedBefore ws j
 unfolding four_named
-named_four {ws} {i} k h e =
+named_four {ws} {i} k h e j q =
     let t = all_split (is_named ws) _ e in
     let k1 = named_iteration k (i + 1) refl (omega arith) t.0 in
     let k2 = named_iteration k1 (i + 2) (omega arith) (omega arith) t.1.0 in
     let k3 = named_iteration k2 (i + 3) (omega arith) (omega arith) t.1.1.0 in
-    named_iteration k3 (i + 4) (omega arith) (omega arith) t.1.1.1.0
+    named_iteration k3 j (omega (arith, q)) (omega arith) t.1.1.1.0
 
 fill_at : (b : ℕ) (es : List ℕ) → first_zero es < length es → set es (first_zero es) b ≡ fill b es
 unfolding fill if'◌then◌else◌
@@ -96,12 +96,13 @@ fill_none b (e ∷ es) h =
 abbrev Fills : List ℕ → List ℕ → ℕ → Type 0
 Fills m m' b = Becomes m m' (with_named (flat_of m) (fill b (flat_of m).named))
 
-module _ {m : List ℕ} (b i : ℕ) (e : i ≡ first_zero (flat_of m).named) where
-  pub fills_none : Room m → length (flat_of m).named ≤ i → Fills m m b
-  fills_none r h = record { size = refl; room = r; flat = ap (with_named (flat_of m)) (fill_none b (flat_of m).named (omega (arith, e, h))) }
+module _ {m : List ℕ} (b : ℕ) where
+  pub fills_none : Room m → length (flat_of m).named ≡ first_zero (flat_of m).named → Fills m m b
+  fills_none r h = record { size = refl; room = r; flat = ap (with_named (flat_of m)) (fill_none b (flat_of m).named (omega (arith, h))) }
 
-  pub fills_at : {m' : List ℕ} → i < length (flat_of m).named → Becomes m m' (with_named (flat_of m) (set (flat_of m).named i b)) → Fills m m' b
-  fills_at h x =
+  pub fills_at : (i : ℕ) → i ≡ first_zero (flat_of m).named → i < length (flat_of m).named
+      → {m' : List ℕ} → Becomes m m' (with_named (flat_of m) (set (flat_of m).named i b)) → Fills m m' b
+  fills_at i e h x =
       record {
         size = x.size;
         room = x.room;

@@ -1,23 +1,22 @@
 -- Run: steps in turn.
 use Rattle.block_forms.specs.Limits.{block_size}
-use Rattle.basics.proofs.Kit.{◌≡◌, refl, sym, ap, ◌∙◌, subst, true, false, some, List, [], ◌∷◌, ◌++◌, ℕ, suc, ◌*◌, ◌≤◌, ◌<◌, ◌-◌, min, length, eq-eqb, ne_eqb, arith}
+use Rattle.basics.proofs.Kit.{◌≡◌, refl, sym, ap, ◌∙◌, true, false, some, List, [], ◌∷◌, ◌++◌, ℕ, suc, ◌*◌, ◌≤◌, ◌<◌, min, length, eq-eqb, ne_eqb, arith}
 use Rattle.basics.specs.Basics.{if'◌then◌else◌}
 use Rattle.model.specs.State.{Store, Write, Outcome}
 use Rattle.model.specs.Transactions.{gives, unless}
-use Rattle.model.specs.Checkpoint.{is_running, left, step_at, bad_image, step_call, in_turn, run_call}
+use Rattle.model.specs.Checkpoint.{is_running, left, step_at, bad_image, in_turn, run_call}
 use Rattle.model.specs.Recover.{image_after}
-use Rattle.model.proofs.Laws.{step_size, step_at_lem}
+use Rattle.model.proofs.Laws.{step_size}
 use Rattle.memory_layout.specs.Flat.{flat_of}
-use Rattle.memory_layout.specs.Store.{holds_store, store_of, HoldsNow}
+use Rattle.memory_layout.specs.Store.{holds_store, store_of}
 use Rattle.memory_layout.proofs.Laws.{Sound, blocks_is, in_some, in_sound}
-use Rattle.call_contracts.specs.Shape.{MemoryAfter, StoredBy, Stores, StoresAt}
-use Rattle.call_contracts.specs.declared.Answer.{Answer}
-use Rattle.call_contracts.specs.declared.Answer.TheVariants.{Count}
+use Rattle.call_contracts.specs.Shape.{Stores}
+use Rattle.call_contracts.specs.declared.Reply.TheVariants.{Count}
+use Rattle.std.specs.Prelude.{Ok}
 use Rattle.call_contracts.proofs.Answering.{stores_count}
-use Rattle.call_checkpoint.specs.Keeping.{Ready}
+use Rattle.call_checkpoint.specs.Keeping.{Ready, Steps}
 use Rattle.call_checkpoint.proofs.Running.{left_runs}
 use Rattle.call_checkpoint.proofs.Allotting.{lowers}
-use Rattle.call_checkpoint.proofs.Stepping.{answer_of}
 use Rattle.model.specs.State as model
 
 image_append : (ws vs : List Write) (img : List ℕ) → image_after (ws ++ vs) img ≡ image_after vs (image_after ws img)
@@ -54,16 +53,18 @@ pub record Repeats (img₀ m₀ : List ℕ) (k : ℕ) (img m : List ℕ) (n : �
   pub store : (in_turn n (store_of (flat_of m))).store ≡ (in_turn k (store_of (flat_of m₀))).store
   pub image : image_after (in_turn n (store_of (flat_of m))).writes img ≡ image_after (in_turn k (store_of (flat_of m₀))).writes img₀
 
-pub repeats_start : (img m : List ℕ) (k : ℕ) → Ready img m → k ≤ left (store_of (flat_of m)) → Repeats img m k img m k
-repeats_start img m k r h = record { size = refl; wide = refl; has_store = r.runs.has_store; long = r.long; few = h; store = refl; image = refl }
-
-counted : (a : model.Answer) (s : Store) (m m' : List ℕ) (n : ℕ) → a ≡ model.count n → MemoryAfter a s m m' → HoldsNow m m' s
-counted a s m m' n e l = subst (λ (z : model.Answer). MemoryAfter z s m m') e l
-
-stored_by : (call : Store → Outcome) (o : Outcome) (img m : List ℕ) (r : Answer) (img' m' : List ℕ) → holds_store m ≡ true → call (store_of (flat_of m)) ≡ o
-    → Stores call img m r img' m' → StoredBy o img m r img' m'
-unfolding Stores StoresAt
-stored_by call o img m r img' m' h e t = subst (λ (z : Outcome). StoredBy z img m r img' m') e (rw (in_some m h) at t)
+pub repeats_start : (img m : List ℕ) (k n : ℕ) → n ≡ k → Ready img m → k ≤ left (store_of (flat_of m)) → Repeats img m k img m n
+repeats_start img m k n e r h =
+    let s : Store = store_of (flat_of m) in
+    record {
+      size = refl;
+      wide = refl;
+      has_store = r.runs.has_store;
+      long = r.long;
+      few = omega (arith, e, h);
+      store = ap (λ (z : ℕ). (in_turn z s).store) e;
+      image = ap (λ (z : ℕ). image_after (in_turn z s).writes img) e;
+    }
 
 in_turn_next : (n : ℕ) (s : Store) → ((in_turn (suc n) s).store ≡ (in_turn n (step_at s.checkpoint s).store).store)
     × ((in_turn (suc n) s).writes ≡ (step_at s.checkpoint s).writes ++ (in_turn n (step_at s.checkpoint s).store).writes)
@@ -71,45 +72,41 @@ unfolding in_turn
 in_turn_next n s = (refl, refl)
 
 module _ {img₀ m₀ : List ℕ} {k : ℕ} {img m : List ℕ} {n : ℕ} (c : Repeats img₀ m₀ k img m n) where
-  module _ (h : 0 < n) (r : Answer) (img' m' : List ℕ) (w : length img' ≡ length img) (t : Stores (step_call (length img)) img m r img' m') where
-    pub repeats_iteration : Repeats img₀ m₀ k img' m' (n - 1)
-    repeats_iteration =
-        let s : Store = store_of (flat_of m) in
-        let o : Outcome = step_at s.checkpoint s in
-        let e : length img ≡ block_size * s.blocks = c.long ∙ ap (λ (z : ℕ). block_size * z) (sym (blocks_is (flat_of m))) in
-        let on : is_running s.checkpoint ≡ true = left_runs (flat_of m) (omega (arith, c.few)) in
-        let a = answer_of s.checkpoint s on in
-        let q : step_call (length img) s ≡ o = step_at_lem (length img) s e in
-        let d : StoredBy o img m r img' m' = stored_by (step_call (length img)) o img m r img' m' c.has_store q t in
-        let l = counted o.answer o.store m m' (left o.store) a d.memory in
-        let u : Sound m' o.store = in_sound m' o.store l.store in
-        let less : left s ≡ suc (left o.store) = lowers s on in
-        let j : n ≡ suc (n - 1) = omega arith in
-        let x = in_turn_next (n - 1) s in
-        record {
-          size = l.size ∙ c.size;
-          wide = w ∙ c.wide;
-          has_store = u.has_store;
-          long = w ∙ e ∙ ap (λ (z : ℕ). block_size * z) (sym (step_size s) ∙ ap (λ (z : Store). z.blocks) (sym u.means) ∙ blocks_is (flat_of m'));
-          few = omega (arith, c.few, less, ap left u.means);
-          store = ap (λ (z : Store). (in_turn (n - 1) z).store) u.means ∙ sym x.0 ∙ ap (λ (z : ℕ). (in_turn z s).store) (sym j) ∙ c.store;
-          image =
-              ap (λ (z : Store). image_after (in_turn (n - 1) z).writes img') u.means
-              ∙ ap (image_after (in_turn (n - 1) o.store).writes) d.image
-              ∙ sym (image_append o.writes (in_turn (n - 1) o.store).writes img)
-              ∙ ap (λ (z : List Write). image_after z img) (sym x.1)
-              ∙ ap (λ (z : ℕ). image_after (in_turn z s).writes img) (sym j)
-              ∙ c.image;
-        }
+  -- while steps are still to be made, the next one may be
+  pub repeats_ready : 0 < n → Ready img m
+  repeats_ready h = record { runs = record { has_store = c.has_store; on = left_runs (flat_of m) (omega (arith, c.few)) }; long = c.long }
 
-  none_left : n ≤ 0 → (store_of (flat_of m) ≡ (in_turn k (store_of (flat_of m₀))).store) × (img ≡ image_after (in_turn k (store_of (flat_of m₀))).writes img₀)
+  pub repeats_iteration : {i : ℕ} → n ≡ suc i → {img' m' : List ℕ} → length img' ≡ length img → Steps img m img' m' → Repeats img₀ m₀ k img' m' i
+  repeats_iteration {i} j {img'} {m'} w d =
+      let s : Store = store_of (flat_of m) in
+      let o : Outcome = step_at s.checkpoint s in
+      let e : length img ≡ block_size * s.blocks = c.long ∙ ap (λ (z : ℕ). block_size * z) (sym (blocks_is (flat_of m))) in
+      let u : Sound m' o.store = in_sound m' o.store d.memory.store in
+      let less : left s ≡ suc (left o.store) = lowers s (left_runs (flat_of m) (omega (arith, c.few))) in
+      let x = in_turn_next i s in
+      record {
+        size = d.memory.size ∙ c.size;
+        wide = w ∙ c.wide;
+        has_store = u.has_store;
+        long = w ∙ e ∙ ap (λ (z : ℕ). block_size * z) (sym (step_size s) ∙ ap (λ (z : Store). z.blocks) (sym u.means) ∙ blocks_is (flat_of m'));
+        few = omega (arith, c.few, less, ap left u.means);
+        store = ap (λ (z : Store). (in_turn i z).store) u.means ∙ sym x.0 ∙ ap (λ (z : ℕ). (in_turn z s).store) (sym j) ∙ c.store;
+        image =
+            ap (λ (z : Store). image_after (in_turn i z).writes img') u.means
+            ∙ ap (image_after (in_turn i o.store).writes) d.image
+            ∙ sym (image_append o.writes (in_turn i o.store).writes img)
+            ∙ ap (λ (z : List Write). image_after z img) (sym x.1)
+            ∙ ap (λ (z : ℕ). image_after (in_turn z s).writes img) (sym j)
+            ∙ c.image;
+      }
+
+  none_left : n ≡ 0 → (store_of (flat_of m) ≡ (in_turn k (store_of (flat_of m₀))).store) × (img ≡ image_after (in_turn k (store_of (flat_of m₀))).writes img₀)
   unfolding in_turn gives image_after
-  none_left h =
-      let z : n ≡ 0 = omega arith in
+  none_left z =
       (ap (λ (i : ℕ). (in_turn i (store_of (flat_of m))).store) (sym z) ∙ c.store, ap (λ (i : ℕ). image_after (in_turn i (store_of (flat_of m))).writes img) (sym z) ∙ c.image)
 
-  pub repeats_end : n ≤ 0 → (limit : ℕ) → Ready img₀ m₀ → k ≡ min limit (left (store_of (flat_of m₀))) → (a : ℕ) → a ≡ k
-      → Stores (run_call limit (length img₀)) img₀ m₀ (Count a) img m
+  pub repeats_end : n ≡ 0 → (limit : ℕ) → Ready img₀ m₀ → k ≡ min limit (left (store_of (flat_of m₀))) → (a : ℕ) → a ≡ k
+      → Stores (run_call limit (length img₀)) img₀ m₀ (Ok (Count a)) img m
   repeats_end h limit r ek a ea =
       let s : Store = store_of (flat_of m₀) in
       let x = none_left h in

@@ -24,9 +24,13 @@ use Rattle.engine_pages.specs.Pages.{pages_of, page_at, entry_of, first_row}
 use Rattle.memory_layout.specs.Elements.{rows_from}
 use Rattle.engine_pages.specs.Pending.{FirstFrozen}
 use Rattle.engine_pages.proofs.Places.{from_page, page_table_lem, tuples_are}
-use Rattle.call_contracts.specs.Shape.{Stores}
-use Rattle.call_contracts.specs.declared.Answer.TheVariants.{Count, Refused}
-use Rattle.call_contracts.proofs.Answering.{passed_4, stores_4, stores_refused, stores_count}
+use Rattle.call_contracts.specs.Shape.{Stores, StoresAt}
+use Rattle.call_contracts.specs.declared.Reply.TheVariants.{Count}
+use Rattle.refusals.specs.declared.Refusal.{Refusal}
+use Rattle.refusals.specs.Numbers.{number}
+use Rattle.refusals.proofs.Numbers.{number_positive}
+use Rattle.std.specs.Prelude.{Ok, Err}
+use Rattle.call_contracts.proofs.Answering.{passed_4, stores_refused, stores_count}
 use Rattle.call_checkpoint.specs.Keeping.{after_store, RunningIn, Ready, NoneFrozen, Effect, Steps, refusal_number, step_refusal}
 use Rattle.engine_allocator.proofs.Tallies.{frozen_many}
 use Rattle.call_checkpoint.proofs.Running.{running_is}
@@ -210,35 +214,40 @@ module _ (len : ℕ) (m : List ℕ) where
       refusal_none h = let s : Store = store_of (flat_of m) in sym (ap refusal_number (answer_of s.checkpoint s h)) ∙ refused_as (step_at_lem len s e)
 
   -- a call with these tests: each of them refuses
-  module _ (v : ℕ) (ev : v ≡ step_refusal len (store_in m)) where
+  module _ (e : Refusal) (v : number e ≡ step_refusal len (store_in m)) where
+    refused_4 : (call : Store → Outcome) (img : List ℕ) → holds_store m ≡ false → Stores call img m (Err e) img m
+    unfolding Stores StoresAt
+    refused_4 call img h = rw (in_none m h) (ap model.refused (v ∙ sym (refusal_4 h)), (refl, refl))
+
     pub stopped : (call : Store → Outcome)
         → ((s : Store) → (len ≡ block_size * s.blocks → ⊥) → call s ≡ gives (model.refused 5) s)
         → ((s : Store) → len ≡ block_size * s.blocks → is_running s.checkpoint ≡ false → call s ≡ gives (model.refused 18) s)
-        → (img : List ℕ) → (v ≡ 0 → ⊥) → Stores call img m (Refused v) img m
-    stopped call c5 c18 img nz =
-        by (holds_store m)
-        (λ h. let s : Store = store_of (flat_of m) in
+        → (img : List ℕ) → Stores call img m (Err e) img m
+    stopped call c5 c18 img =
+        let s : Store = store_of (flat_of m) in
         let n : ℕ = (flat_of m).head.blocks in
-        let e : block_size * s.blocks ≡ block_size * n = ap (λ (z : ℕ). block_size * z) (blocks_is (flat_of m)) in
+        let b : block_size * s.blocks ≡ block_size * n = ap (λ (z : ℕ). block_size * z) (blocks_is (flat_of m)) in
+        by (holds_store m)
+        (λ h. let stops = λ (k : ℕ) (q : k ≡ step_refusal len (store_in m)) (c : call s ≡ gives (model.refused k) s).
+        stores_refused call m img e h (c ∙ ap (λ (z : ℕ). gives (model.refused z) s) (q ∙ sym v)) in
         by (eqb len (block_size * n))
         (λ k. let q : len ≡ block_size * n = eqb-true len (block_size * n) k in
         by (is_running s.checkpoint)
-        (λ w. absurd (nz (ev ∙ sym (refusal_none h q w))))
-        (λ w. rw (ev ∙ sym (refusal_18 h q w)) (stores_refused call m img 18 h (c18 s (q ∙ sym e) w))))
-        (λ k. let ne : len ≡ block_size * n → ⊥ = eqb-false len (block_size * n) k in
-        rw (ev ∙ sym (refusal_5 h ne)) (stores_refused call m img 5 h (c5 s (λ z. ne (z ∙ e))))))
-        (λ h. rw (ev ∙ sym (refusal_4 h)) (stores_4 call m img h))
+        (λ w. absurd (omega (arith, number_positive e, v, refusal_none h q w)))
+        (λ w. stops 18 (refusal_18 h q w) (c18 s (q ∙ sym b) w)))
+        (λ k. let ne : len ≡ block_size * n → ⊥ = eqb-false len (block_size * n) k in stops 5 (refusal_5 h ne) (c5 s (λ z. ne (z ∙ b)))))
+        (refused_4 call img)
 
-pub passed_ready : (img m : List ℕ) (v : ℕ) → v ≡ step_refusal (length img) (store_in m) → v ≡ 0 → Ready img m
-passed_ready img m v ev z =
+pub passed_ready : (img m : List ℕ) → 0 ≡ step_refusal (length img) (store_in m) → Ready img m
+passed_ready img m v =
     let n = length img in
-    let held = passed_4 m (λ h. ev ∙ sym (refusal_4 n m h)) z in
+    let held = passed_4 m (λ h. v ∙ sym (refusal_4 n m h)) refl in
     let long : n ≡ block_size * (flat_of m).head.blocks =
     by (eqb n (block_size * (flat_of m).head.blocks)) (λ h. eqb-true n _ h) (λ h. absurd (omega (arith, refusal_5 n m held (eqb-false n _ h)))) in
     let on = by (is_running (store_of (flat_of m)).checkpoint) (λ h. h) (λ h. absurd (omega (arith, refusal_18 n m held long h))) in
     record { runs = record { has_store = held; on = on }; long = long }
 
-pub step_done : (img m img' m' : List ℕ) (k : ℕ) → Ready img m → Steps img m img' m' → k ≡ left (store_of (flat_of m')) → Stores (step_call (length img)) img m (Count k) img' m'
+pub step_done : (img m img' m' : List ℕ) (k : ℕ) → Ready img m → Steps img m img' m' → k ≡ left (store_of (flat_of m')) → Stores (step_call (length img)) img m (Ok (Count k)) img' m'
 step_done img m img' m' k r d e =
     let s : Store = store_of (flat_of m) in
     let o : Outcome = step_at s.checkpoint s in

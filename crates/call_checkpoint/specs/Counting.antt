@@ -1,5 +1,5 @@
 -- Which entries of the list of pages name a block.
-use Rattle.std.specs.Prelude.{ℕ, suc, ◌+◌, ◌≤◌, ◌≡◌, Bool, not, List, [], ◌∷◌, ◌++◌, length, drop, get_or, eqb}
+use Rattle.std.specs.Prelude.{ℕ, suc, ◌+◌, ◌≤◌, ◌<◌, ◌≡◌, Option, Some, None, Bool, not, List, [], ◌∷◌, ◌++◌, length, drop, get_or, eqb}
 use Rattle.basics.specs.Basics.{if'◌then◌else◌, all}
 use Rattle.memory_layout.specs.Flat.{Flat}
 
@@ -7,6 +7,11 @@ use Rattle.memory_layout.specs.Flat.{Flat}
 unfoldable pub first_zero : List ℕ → ℕ
 first_zero [] = 0
 first_zero (e ∷ es) = if' eqb e 0 then 0 else suc (first_zero es)
+
+-- where the first entry that names no block yet stands, if there is one
+abbrev pub IsFirstZero : Option ℕ → List ℕ → Type 0
+IsFirstZero None es = length es ≡ first_zero es
+IsFirstZero (Some i) es = (i ≡ first_zero es) × (i < length es)
 
 -- each entry before i names a block: the first that does not is found from i on
 pub record NamedBefore (es : List ℕ) (i : ℕ) : Type 0 where

@@ -1,6 +1,8 @@
 // Begin, step and run: the checkpoint on the working memory. No call asks anything of its caller: each contract says what the call
 // answers and leaves, for any image and any memory, by the model's function.
-ghost use Rattle.std.specs.Prelude.{◌≡◌, true, [], map, ◌+◌, ◌≤◌, ◌<◌, min, length, get_or};
+#![tactic(auto)]
+
+ghost use Rattle.std.specs.Prelude.{◌≡◌, true, [], map, ◌+◌, ◌≤◌, ◌<◌, length, get_or};
 ghost use Rattle.memory_layout.specs.Places.{head_size};
 ghost use Rattle.block_forms.specs.Limits.{block_limit};
 ghost use Rattle.model.specs.Calls.{with_room};
@@ -9,15 +11,17 @@ ghost use Rattle.memory_layout.specs.Flat.{flat_of, Room, Becomes, with_named};
 ghost use Rattle.memory_layout.specs.Store.{holds_store, store_of, store_in, HoldsNow};
 ghost use Rattle.engine_pages.specs.Pending.{FirstFrozen};
 ghost use Rattle.engine_allocator.specs.Blocks.{allocator_in};
+ghost use Rattle.refusals.specs.Numbers.{number_in};
 ghost use Rattle.call_contracts.specs.Shape.{Answers, Stores};
-ghost use Rattle.call_checkpoint.specs.Counting.{first_zero, NamedBefore, four_named, named_in};
+ghost use Rattle.call_checkpoint.specs.Counting.{IsFirstZero, NamedBefore, four_named, named_in};
 ghost use Rattle.call_checkpoint.specs.Keeping.{after_store, RunningIn, Ready, Takes, BlockLeft, PageNext, DirectoryNext, HeaderNext, taking, Marks, Steps, step_refusal};
 
-use call_contracts::Answer;
+use call_contracts::{Answer, Reply};
 use engine_allocator::Allocator;
+use refusals::Refusal;
 
 // A level, and with it a header's number, is at most this.
-const LAST_LEVEL: u32 = 4294967295;
+const LAST_LEVEL: u32 = u32::MAX;
 
 const BLOCK_SIZE: usize = block_forms::BLOCK_SIZE;
 
@@ -27,10 +31,7 @@ fn is_running(m: &[u8]) -> bool
     ensures { result ≡ is_running (store_of (flat_of m.now)).checkpoint }
 {
     let h = memory_layout::get_head(m);
-    if !h.running {
-        return false;
-    }
-    h.level < LAST_LEVEL
+    h.running && h.level < LAST_LEVEL
 }
 
 // ---- begin
@@ -41,12 +42,9 @@ fn name_pages(m: &mut [u8])
     ensures { Becomes m.old m.new (with_named (flat_of m.old) (map (λ e. e.block) (flat_of m.old).entries)) }
 {
     let c = memory_layout::get_counts(m);
-    let n = c.pages as usize;
-    let mut p: usize = 0;
-    while p < n {
+    for p in 0..c.pages as usize {
         let b = memory_pages::block_at(m, p);
         memory_layout::push_named(m, b);
-        p += 1;
     }
 }
 
@@ -70,25 +68,24 @@ pub fn begin_if(m: &mut [u8], room: bool) -> Answer
     ensures { Answers (with_room room begin_call) m.old result m.new }
 {
     if !memory_layout::holds_store(m) {
-        return Answer::Refused(4);
+        return Err(Refusal::NoStore);
     }
     if is_running(m) {
-        return Answer::Refused(17);
+        return Err(Refusal::CheckpointRunning);
     }
     let h = memory_layout::get_head(m);
     if h.level == LAST_LEVEL {
-        return Answer::Refused(19);
+        return Err(Refusal::LevelsExhausted);
     }
     let need = engine_allocator::blocks_needed(m);
     if !engine_allocator::enough_free(m, need) {
-        return Answer::Refused(20);
+        return Err(Refusal::ImageFull);
     }
     if !room {
-        return Answer::Refused(29);
+        return Err(Refusal::LogFull);
     }
     start(m);
-    let n = need as u64;
-    Answer::Count(n + 1)
+    Ok(Reply::Count(need as u64 + 1))
 }
 
 pub fn begin(m: &mut [u8]) -> Answer
@@ -127,31 +124,28 @@ fn named_fours(m: &[u8], n: usize) -> usize
     requires { Room m.now × (n ≡ length (flat_of m.now).named) }
     ensures { NamedBefore (flat_of m.now).named result }
 {
-    let mut i: usize = 0;
-    while i + 4 <= n {
-        if !four_named(m, i) {
-            return i;
+    let fours = n / 4;
+    for k in 0..fours {
+        if !four_named(m, 4 * k) {
+            return 4 * k;
         }
-        i += 4;
     }
-    i
+    4 * fours
 }
 
-// The place of the first page of the list that has no block yet; how many pages there are, if each has one.
-fn first_unnamed(m: &[u8]) -> usize
+// The place of the first page of the list that has no block yet, if there is one.
+fn first_unnamed(m: &[u8]) -> Option<usize>
     requires { Room m.now }
-    ensures { result ≡ first_zero (flat_of m.now).named }
+    ensures { IsFirstZero result (flat_of m.now).named }
 {
     let c = memory_layout::get_counts(m);
     let n = c.named as usize;
-    let mut i = named_fours(m, n);
-    while i < n {
+    for i in named_fours(m, n)..n {
         if memory_layout::get_named(m, i) == 0 {
-            return i;
+            return Some(i);
         }
-        i += 1;
     }
-    n
+    None
 }
 
 // The first page of the list that has no block yet gets block b.
@@ -159,13 +153,9 @@ fn fill_entry(m: &mut [u8], b: u16)
     requires { Room m.old × (b < block_limit) }
     ensures { Becomes m.old m.new (with_named (flat_of m.old) (fill b (flat_of m.old).named)) }
 {
-    let c = memory_layout::get_counts(m);
-    let n = c.named as usize;
-    let i = first_unnamed(m);
-    if n <= i {
-        return;
+    if let Some(i) = first_unnamed(m) {
+        memory_layout::put_named(m, i, b);
     }
-    memory_layout::put_named(m, i, b);
 }
 
 // After the store of the first frozen page, p, as block b.
@@ -207,11 +197,9 @@ fn mark_named(m: &mut [u8])
 {
     let c = memory_layout::get_counts(m);
     let n = c.named as usize + c.directories as usize;
-    let mut i: usize = 0;
-    while i < n {
+    for i in 0..n {
         let b = block_named(m, i);
         memory_layout::mark_used(m, b);
-        i += 1;
     }
 }
 
@@ -282,9 +270,8 @@ fn store_block(a: &mut Allocator, image: &mut [u8], m: &mut [u8], p: usize)
     requires { BlockLeft image.old m.old p × (a.old ≡ allocator_in m.old) }
     ensures { Steps image.old m.old image.new m.new × (a.new ≡ allocator_in m.new) }
 {
-    let b = write_block(image, m, p, a.taken);
-    a.taken = b;
-    a.left = a.left - 1;
+    a.taken = write_block(image, m, p, a.taken);
+    a.left -= 1;
 }
 
 // Makes the allocator of this step and lends it to the store of the next block; answers how many blocks are left.
@@ -292,10 +279,7 @@ fn lend_allocator(image: &mut [u8], m: &mut [u8], p: usize, taken: u32, left: u6
     requires { BlockLeft image.old m.old p × (record { taken = taken; left = left } ≡ allocator_in m.old) }
     ensures { Steps image.old m.old image.new m.new × (result ≡ (allocator_in m.new).left) }
 {
-    let mut a = Allocator {
-        taken: taken,
-        left: left,
-    };
+    let mut a = Allocator { taken, left };
     store_block(&mut a, image, m, p);
     a.left
 }
@@ -305,7 +289,7 @@ fn store_header(image: &mut [u8], m: &mut [u8])
     requires { HeaderNext image.old m.old }
     ensures { Steps image.old m.old image.new m.new × (left (store_of (flat_of m.new)) ≡ 0) }
 {
-    engine_writer::write_header(&mut image[0..BLOCK_SIZE], m);
+    engine_writer::write_header(&mut image[..BLOCK_SIZE], m);
     keep_header(m);
 }
 
@@ -325,63 +309,43 @@ fn store_next(image: &mut [u8], m: &mut [u8]) -> u64
     lend_allocator(image, m, p, h.taken, n) + 1
 }
 
-// The refusal's number: 4, no store; 5, the image, of len bytes, is not exactly the store's blocks long; 18, no checkpoint runs; otherwise 0.
-fn step_refusal(len: usize, m: &[u8]) -> u64
-    ensures { result ≡ step_refusal len (store_in m.now) }
+// Whether a step may be made: there is a store, the image, of len bytes, is exactly its blocks long, and a checkpoint runs.
+fn check_step(len: usize, m: &[u8]) -> Result<(), Refusal>
+    ensures { number_in result ≡ step_refusal len (store_in m.now) }
 {
     if !memory_layout::holds_store(m) {
-        return 4;
+        return Err(Refusal::NoStore);
     }
     let h = memory_layout::get_head(m);
-    let n = h.blocks as usize;
-    if len != BLOCK_SIZE * n {
-        return 5;
+    if len != BLOCK_SIZE * h.blocks as usize {
+        return Err(Refusal::ImageMismatch);
     }
     if !is_running(m) {
-        return 18;
+        return Err(Refusal::NoCheckpoint);
     }
-    0
+    Ok(())
 }
 
 // Makes one store; answers how many are left.
 pub fn step(image: &mut [u8], m: &mut [u8]) -> Answer
     ensures { Stores (step_call (length image.old)) image.old m.old result image.new m.new }
 {
-    let v = step_refusal(image.len(), m);
-    if v != 0 {
-        return Answer::Refused(v);
-    }
+    check_step(image.len(), m)?;
     let n = store_next(image, m);
-    Answer::Count(n)
+    Ok(Reply::Count(n))
 }
 
 // ---- run
 
-fn smaller(a: u64, b: u64) -> u64
-    ensures { result ≡ min a b }
-{
-    if a < b {
-        return a;
-    }
-    b
-}
-
-// Makes stores by steps, at most as many as the limit; answers how many.
+// Makes stores as steps do, at most as many as the limit; answers how many.
 pub fn run(image: &mut [u8], m: &mut [u8], limit: u64) -> Answer
     ensures { Stores (run_call limit (length image.old)) image.old m.old result image.new m.new }
 {
-    let v = step_refusal(image.len(), m);
-    if v != 0 {
-        return Answer::Refused(v);
+    check_step(image.len(), m)?;
+    let left = engine_allocator::blocks_left(m, memory_pages::count_frozen(m, 0)) + 1;
+    let k = limit.min(left);
+    for made in 0..k {
+        store_next(image, m);
     }
-    let k = smaller(
-        limit,
-        engine_allocator::blocks_left(m, memory_pages::count_frozen(m, 0)) + 1,
-    );
-    let mut n = k;
-    while 0 < n {
-        step(image, m);
-        n -= 1;
-    }
-    Answer::Count(k)
+    Ok(Reply::Count(k))
 }

@@ -1,27 +1,31 @@
 -- The shape of every public contract: what a call answers and leaves, by the model's function.
-use Rattle.std.specs.Prelude.{◌≡◌, Bool, true, false, List, [], ◌++◌, ℕ, length, drop}
+use Rattle.std.specs.Prelude.{◌≡◌, Bool, true, false, List, [], ◌++◌, ℕ, length, drop, Result, Ok, Err}
 use Rattle.std.proofs.Math.Option.{Option, none, some}
 use Rattle.image.specs.Stages.{Stage, refuses, holds}
 use Rattle.model.specs.State.{Store, Outcome}
 use Rattle.model.specs.Recover.{image_after, make, made_image, recover}
 use Rattle.memory_layout.specs.Store.{store_in, HoldsNow}
-use Rattle.call_contracts.specs.declared.Answer.{Answer}
-use Rattle.call_contracts.specs.declared.Answer.TheVariants.{Done, Count, Filled, Refused}
+use Rattle.refusals.specs.declared.Refusal.{Refusal}
+use Rattle.refusals.specs.Numbers.{number}
+use Rattle.call_contracts.specs.declared.Reply.{Reply}
+use Rattle.call_contracts.specs.declared.Reply.TheVariants.{Done, Count, Filled}
 use Rattle.model.specs.State as model
+
+-- what every call answers
+abbrev pub Answer : Type 0
+Answer = Result Reply Refusal
 
 -- the model's answer that an answer stands for, where bs are the bytes put into the reply
 abbrev pub meaning : Answer → List ℕ → model.Answer
-meaning Done bs = model.done
-meaning (Count n) bs = model.count n
-meaning (Filled n) bs = model.filled n bs
-meaning (Refused n) bs = model.refused n
+meaning (Ok Done) bs = model.done
+meaning (Ok (Count n)) bs = model.count n
+meaning (Ok (Filled n)) bs = model.filled n bs
+meaning (Err e) bs = model.refused (number e)
 
 -- no refusal
 unfoldable pub is_accepted : Answer → Bool
-is_accepted Done = true
-is_accepted (Count n) = true
-is_accepted (Filled n) = true
-is_accepted (Refused n) = false
+is_accepted (Ok r) = true
+is_accepted (Err e) = false
 
 -- the bytes that an answer puts into the reply
 abbrev pub bytes_of : model.Answer → List ℕ

@@ -1,5 +1,11 @@
 -- The records to repeat: those of the whole log, or from the last mark on its opens and the records behind it.
 use Rattle.basics.proofs.Kit.{◌≡◌, refl, sym, ap, ◌∙◌, subst, Bool, true, false, ◌&&◌, some, none, Option, List, ◌++◌, map, ℕ, zero, suc, ◌+◌, ◌*◌, ◌/◌, ◌≤◌, length, drop, arith}
+use Rattle.std.specs.Prelude.{Some, None, Result, Ok, Err}
+use Rattle.std.specs.Prelude.{Option as Place}
+use Rattle.std.specs.Result.{is_ok, MatchResult}
+use Rattle.refusals.specs.declared.Refusal.{Refusal}
+use Rattle.refusals.specs.declared.Refusal.TheVariants.{BadLog}
+use Rattle.refusals.specs.Numbers.{number_in}
 use Rattle.basics.proofs.Kit.{drop-drop, length-drop}
 use Rattle.basics.specs.Basics.{if'◌then◌else◌}
 use Rattle.basics.proofs.Facts.{lie}
@@ -9,7 +15,7 @@ use Rattle.block_forms.specs.Decode.{read_entries}
 use Rattle.log_records.specs.Records.{LogRecord, opened_by, mark_of, log_size, read_log, from_mark}
 use Rattle.log_records.specs.Entries.{entry_as, entry_in, mark_size, last_mark}
 use Rattle.log_records.specs.declared.Entry.{Entry}
-use Rattle.log_records.specs.declared.MarkPlace.{MarkPlace}
+use Rattle.log_records.specs.declared.Entry.TheVariants.{Mark}
 use Rattle.log_records.proofs.Spelling.{mark_size_lem}
 use Rattle.log_records.proofs.Laws.{encode_decode, mark_entries}
 use Rattle.log_records.proofs.Logs.{log_split}
@@ -18,7 +24,7 @@ use Rattle.log_records.proofs.Walks.{mark_first, Marked, mark_found, mark_missin
 use Rattle.log_model.specs.Repeats.{repeat_all, all_accepted}
 use Rattle.log_model.specs.RollForward.{opens_of, behind_mark, to_repeat}
 use Rattle.log_model.proofs.Repeating.{repeat_append, accepted_append}
-use Rattle.call_forward.specs.Rolling.{store_now, AllRepeated, records_in, MayRepeat, marked_by, MayOpen, count_in, MayRepeatMarked, SinceBy}
+use Rattle.call_forward.specs.Rolling.{store_now, AllRepeated, records_in, MayRepeat, marked_by, MayOpen, MayRepeatMarked, SinceBy}
 use Rattle.call_forward.proofs.Repeated.{now_is}
 use Rattle.call_forward.proofs.Walking.{entry_read}
 
@@ -31,18 +37,21 @@ pub record MarkHere (s log : List ℕ) (at n : ℕ) (txs : List ℕ) (ps : List 
   pub inside : at + mark_size n ≤ length log
   pub all : records_in (behind_mark (read_log (drop at log))) ≡ map opened_by txs ++ ps
 
-count_mark : (l : ℕ) (txs : List ℕ) → count_in (entry_as (mark_of l txs)) ≡ length txs
-unfolding count_in entry_as
-count_mark l txs = refl
+-- the entry of a mark
+pub at_mark : (s log : List ℕ) (at : ℕ) (h : MayRepeatMarked s log at) {e : Entry} → e ≡ entry_in (drop at log) → e ≡ Mark h.level (length h.transactions)
+unfolding entry_as
+at_mark s log at h q =
+    let f = log_split (drop at log) (mark_of h.level h.transactions) h.records h.read in
+    q ∙ entry_read (drop at log) (mark_of h.level h.transactions) f.going f.first
 
-module _ (s log : List ℕ) (at : ℕ) (b : AllBytes log) (h : MayRepeatMarked s log at) {e : Entry} (q : e ≡ entry_in (drop at log)) {n : ℕ} (k : n ≡ count_in e) where
+module _ (s log : List ℕ) (at : ℕ) (b : AllBytes log) (h : MayRepeatMarked s log at) {e : Entry} (q : e ≡ entry_in (drop at log)) {l n : ℕ} (k : e ≡ Mark l n) where
   pub mark_here : MarkHere s log at n h.transactions h.records
   unfolding records_in behind_mark opens_of mark_size
   mark_here =
       let txs = h.transactions in
       let f = log_split (drop at log) (mark_of h.level txs) h.records h.read in
       let d = encode_decode (drop at log) (all_drop Byte at log b) (mark_of h.level txs) f.first in
-      let c : n ≡ length h.transactions = k ∙ ap count_in (q ∙ entry_read (drop at log) (mark_of h.level txs) f.going f.first) ∙ count_mark h.level txs in
+      let c : n ≡ length h.transactions = let m = sym k ∙ at_mark s log at h q in cc in
       let z : log_size (mark_of h.level h.transactions) ≡ 6 + (3 * n + 1) / 2 = mark_size_lem h.level txs ∙ ap mark_size (sym c) in
       let w = read_length (drop at log) (mark_of h.level txs) d in
       let l = length-drop at log in
@@ -74,14 +83,12 @@ opens_then m m1 m' a b o e p =
 
 -- ---- what is to be repeated
 
-module _ (m m' : List ℕ) (qs : List LogRecord) {ok : Bool} (a : AllRepeated qs m ok m') {o : Option (List LogRecord)} (e : o ≡ some qs) where
-  pub since_done : ok ≡ true → SinceBy o m 0 m'
-  unfolding SinceBy if'◌then◌else◌
-  since_done t = subst (λ z. SinceBy z m 0 m') (sym e) (sym (rw (sym a.answer ∙ t)), λ z. a.memory t)
-
-  pub since_refused : ok ≡ false → SinceBy o m 31 m'
-  unfolding SinceBy if'◌then◌else◌
-  since_refused t = subst (λ z. SinceBy z m 31 m') (sym e) (sym (rw (sym a.answer ∙ t)), λ z. absurd (omega arith))
+-- what was repeated, with every refusal as 31
+pub since_by : (m m' : List ℕ) (qs : List LogRecord) (r r' : Result (Unit {0}) Refusal) → AllRepeated qs m (is_ok r) m' → {o : Option (List LogRecord)} → o ≡ some qs
+    → MatchResult r (λ x. r' ≡ Ok x) (λ e. r' ≡ Err BadLog) → SinceBy o m (number_in r') m'
+unfolding SinceBy if'◌then◌else◌
+since_by m m' qs (Ok u) r' a e h = subst (λ z. SinceBy z m (number_in r') m') (sym e) (rw h (sym (rw (sym a.answer)), λ z. a.memory refl))
+since_by m m' qs (Err k) r' a e h = subst (λ z. SinceBy z m (number_in r') m') (sym e) (rw h (sym (rw (sym a.answer)), λ z. absurd (omega arith)))
 
 pub since_none : (m m' : List ℕ) {o : Option (List LogRecord)} → o ≡ none → SinceBy o m 30 m'
 unfolding SinceBy
@@ -97,25 +104,25 @@ unfolding to_repeat
 above zero rs h = absurd (h refl)
 above (suc l) rs h = refl
 
-module _ (s log : List ℕ) (l : ℕ) (h : MayRepeat s log 0) (high : l ≡ 0 → ⊥) {p : MarkPlace} (e : p ≡ last_mark l (read_log log)) where
+module _ (s log : List ℕ) (l : ℕ) (h : MayRepeat s log 0) (high : l ≡ 0 → ⊥) {p : Place ℕ} (e : p ≡ last_mark l (read_log log)) where
   is_all : records_in (read_log log) ≡ h.records
   unfolding records_in
   is_all = ap records_in h.read
 
-  pub none_marked : p.found ≡ false → to_repeat l (records_in (read_log log)) ≡ none
+  pub none_marked : p ≡ None → to_repeat l (records_in (read_log log)) ≡ none
   unfolding behind_mark
   none_marked f = ap (to_repeat l) is_all ∙ above l h.records high ∙ ap behind_mark (mark_missing log l h.records h.read e f)
 
-  module _ (f : p.found ≡ true) where
-    found : Marked log l h.records p.at
-    found = mark_found log l h.records h.read e f
+  module _ (at : ℕ) (f : p ≡ Some at) where
+    found : Marked log l h.records at
+    found = mark_found log l h.records h.read e at f
 
-    pub may_marked : MayRepeatMarked s log p.at
+    pub may_marked : MayRepeatMarked s log at
     may_marked =
         let m = mark_first l h.records found.from in
         record { has_store = h.has_store; inside = omega (arith, found.inside); level = l; transactions = m.0; records = m.1; read = found.read ∙ ap some m.2 }
 
-    pub from_marked : to_repeat l (records_in (read_log log)) ≡ some (records_in (behind_mark (read_log (drop p.at log))))
+    pub from_marked : to_repeat l (records_in (read_log log)) ≡ some (records_in (behind_mark (read_log (drop at log))))
     unfolding behind_mark records_in
     from_marked =
         let m = mark_first l h.records found.from in

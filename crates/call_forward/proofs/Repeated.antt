@@ -9,9 +9,9 @@ use Rattle.log_records.specs.Records.{LogRecord, mark_of}
 use Rattle.log_model.specs.Repeats.{call_of, call_if, repeat, repeat_all, all_accepted}
 use Rattle.memory_layout.specs.Store.{holds_store, store_in, HoldsNow}
 use Rattle.memory_layout.proofs.Laws.{in_some, in_sound}
-use Rattle.call_contracts.specs.Shape.{is_accepted, MemoryAfter, Afterwards, Answers, AnswersAt}
-use Rattle.call_contracts.specs.declared.Answer.{Answer}
-use Rattle.call_contracts.proofs.Answering.{accepted_means}
+use Rattle.call_contracts.specs.Shape.{Answer, MemoryAfter, Afterwards, Answers, AnswersAt}
+use Rattle.std.specs.Result.{is_ok}
+use Rattle.call_contracts.proofs.Answering.{accepted_means, accepted_ok}
 use Rattle.call_forward.specs.Rolling.{store_now, OneRepeated, AllRepeated}
 use Rattle.model.specs.State as model
 
@@ -42,12 +42,12 @@ module _ (q : LogRecord) (c : TransactionCall) (e : call_of q ≡ some c) (f : S
   after_repeat r m' a =
       subst (λ o. Afterwards o m r m') is_repeat (subst (λ o. AnswersAt o f m r m') (in_some m h) a)
 
-  pub one_repeated : (r : Answer) {ok : Bool} {m' : List ℕ} → Answers f m r m' → ok ≡ is_accepted r → OneRepeated q m ok m'
-  one_repeated r {ok} {m'} a k =
+  pub one_repeated : (r : Answer) {m' : List ℕ} → Answers f m r m' → OneRepeated q m (is_ok r) m'
+  one_repeated r {m'} a =
       let o = repeat q (store_now m) in
       let b = after_repeat r m' a in
       record {
-        answer = k ∙ accepted_means r _ _ b.answer;
+        answer = sym (accepted_ok r) ∙ accepted_means r _ _ b.answer;
         memory = holds_after o.answer o.store m m' h keeps b.memory;
       }
 

@@ -1,29 +1,30 @@
 -- The tests of roll-forward in their order: what each finds, and where it ends.
-use Rattle.basics.proofs.Kit.{◌≡◌, refl, sym, ap, ◌∙◌, subst, true, false, some, none, Option, List, [], ℕ, ◌+◌, ◌*◌, ◌≤◌, ◌<◌, length, arith}
+use Rattle.basics.proofs.Kit.{◌≡◌, refl, sym, ap, ◌∙◌, subst, true, some, none, Option, List, [], ℕ, ◌+◌, ◌*◌, ◌≤◌, ◌<◌, length, arith}
+use Rattle.std.specs.Prelude.{Some, None, Ok, Err}
+use Rattle.std.specs.Prelude.{Option as Place}
 use Rattle.basics.proofs.Kit.{lt-ltb, le-ltb, length-append}
 use Rattle.basics.specs.Basics.{if'◌then◌else◌, sorted}
 use Rattle.basics.specs.Lists.{over}
-use Rattle.basics.proofs.Facts.{by, by-option, lie}
+use Rattle.basics.proofs.Facts.{by, by-option, clash}
 use Rattle.basics.proofs.Sorted.{length_sorted}
 use Rattle.block_forms.specs.Tuple.{AllBytes}
 use Rattle.image.specs.Stages.{Stage, refuses, holds}
 use Rattle.model.specs.State.{Store}
-use Rattle.model.specs.Calls.{accepted}
 use Rattle.model.specs.Transactions.{open_numbers}
 use Rattle.model.proofs.Owners.{numbers_length}
 use Rattle.log_records.specs.Records.{LogRecord, read_log, end_of, encode_records}
 use Rattle.log_records.specs.Entries.{log_end}
-use Rattle.log_records.specs.declared.LogEnd.{LogEnd}
 use Rattle.log_records.proofs.Logs.{records_of_log, length_records}
 use Rattle.log_model.specs.Repeats.{all_accepted}
 use Rattle.log_model.specs.RollForward.{Forward, to_repeat, aborts_of, with_aborts, zeroed_from, end_forward, forward_of, forward_from, forward_below}
 use Rattle.memory_layout.specs.Flat.{flat_of}
 use Rattle.memory_layout.specs.Store.{holds_store, store_of}
-use Rattle.call_contracts.specs.Shape.{is_accepted, meaning, RecoveredBy}
-use Rattle.call_contracts.specs.declared.Answer.{Answer}
-use Rattle.call_contracts.specs.declared.Answer.TheVariants.{Done, Refused}
-use Rattle.call_contracts.specs.declared.Logged.{Logged}
-use Rattle.call_contracts.proofs.Answering.{accepted_means}
+use Rattle.call_contracts.specs.Shape.{meaning, RecoveredBy}
+use Rattle.call_contracts.specs.declared.Reply.{Reply}
+use Rattle.call_contracts.specs.declared.Reply.TheVariants.{Done, Count, Filled}
+use Rattle.refusals.specs.declared.Refusal.{Refusal}
+use Rattle.refusals.specs.Numbers.{number}
+use Rattle.refusals.proofs.Numbers.{number_positive}
 use Rattle.call_forward.specs.Rolling.{store_now, records_in, MayRepeat, SinceBy, MayAbort, Aborted, RestoredBy}
 use Rattle.call_forward.proofs.Repeated.{now_is}
 use Rattle.call_forward.proofs.Listed.{end_aborts}
@@ -31,38 +32,34 @@ use Rattle.model.specs.State as model
 
 -- ---- recovery
 
-pub refuses_not : (a : Answer) (k : ℕ) → meaning a [] ≡ model.refused k → is_accepted a ≡ false
-unfolding accepted
-refuses_not a k e = accepted_means a [] _ e
-
-pub done_is : (a : Answer) → meaning a [] ≡ model.done → is_accepted a ≡ true
-unfolding accepted
-done_is a e = accepted_means a [] _ e
-
 -- what an accepted recovery has left
 pub record Began (st : Stage Store) (s s1 : List ℕ) : Type 0 where
   pub is : st ≡ holds (store_now s1)
   pub has_store : holds_store s1 ≡ true
   pub size : length s1 ≡ length s
 
-pub began : (st : Stage Store) (s s1 : List ℕ) (a : Answer) → RecoveredBy st s a s1 → is_accepted a ≡ true → Began st s s1
-unfolding RecoveredBy
-began (refuses k) s s1 a r e = lie (sym (refuses_not a k r.0) ∙ e)
-began (holds z) s s1 a r e =
-    let k = now_is s s1 z r.1 in
-    record { is = ap holds (sym k.1); has_store = k.0; size = r.1.size }
+accepts : (r : Reply) (k : ℕ) → meaning (Ok r) [] ≡ model.refused k → ⊥
+accepts Done k e = clash cc
+accepts (Count n) k e = clash cc
+accepts (Filled n) k e = clash cc
 
-pub not_begun : (st : Stage Store) (s s1 : List ℕ) (a : Answer) (log s' : List ℕ) → RecoveredBy st s a s1 → is_accepted a ≡ false
-    → RestoredBy (forward_below log st) s log (record { answer = a; end = 0 }) s' log
+pub began : (st : Stage Store) (s s1 : List ℕ) (r : Reply) → RecoveredBy st s (Ok r) s1 → Began st s s1
+unfolding RecoveredBy
+began (refuses k) s s1 r q = absurd (accepts r k q.0)
+began (holds z) s s1 r q =
+    let k = now_is s s1 z q.1 in
+    record { is = ap holds (sym k.1); has_store = k.0; size = q.1.size }
+
+pub not_begun : (st : Stage Store) (s s1 : List ℕ) (e : Refusal) (log s' : List ℕ) → RecoveredBy st s (Err e) s1 → RestoredBy (forward_below log st) s log (Err e) s' log
 unfolding RecoveredBy RestoredBy forward_below
-not_begun (refuses k) s s1 a log s' r e = (r.0, refl, refl)
-not_begun (holds z) s s1 a log s' r e = lie (sym e ∙ done_is a r.0)
+not_begun (refuses k) s s1 e log s' r = (cc, refl)
+not_begun (holds z) s s1 e log s' r = clash cc
 
 -- ---- the other refusals
 
-pub stopped : (st : Stage Forward) (s log s' : List ℕ) (r : Logged) (k : ℕ) → st ≡ refuses k → (r.answer ≡ Refused k) × (r.end ≡ 0) → RestoredBy st s log r s' log
+pub stopped : (st : Stage Forward) (s log s' : List ℕ) (e : Refusal) → st ≡ refuses (number e) → RestoredBy st s log (Err e) s' log
 unfolding RestoredBy
-stopped st s log s' r k e a = subst (λ z. RestoredBy z s log r s' log) (sym e) (ap (λ z. meaning z []) a.0, a.1, refl)
+stopped st s log s' e q = subst (λ z. RestoredBy z s log (Err e) s' log) (sym q) (refl, refl)
 
 module _ (log s s1 : List ℕ) (st : Stage Store) (b : Began st s s1) where
   begun : forward_below log st ≡ forward_from log (read_log log) (store_now s1)
@@ -71,11 +68,11 @@ module _ (log s s1 : List ℕ) (st : Stage Store) (b : Began st s s1) where
 
   -- ---- the whole log
 
-  pub not_whole : (l : LogEnd) → l ≡ log_end (read_log log) → l.whole ≡ false → forward_below log st ≡ refuses 31
+  pub not_whole : {l : Place ℕ} → l ≡ log_end (read_log log) → l ≡ None → forward_below log st ≡ refuses 31
   unfolding forward_from log_end
-  not_whole l e w =
+  not_whole e w =
       begun ∙ by-option (read_log log) (λ h. ap (λ o. forward_from log o (store_now s1)) h)
-      (λ rs h. lie (sym w ∙ ap (λ (z : LogEnd). z.whole) (e ∙ ap log_end h)))
+      (λ rs h. let k = sym w ∙ e ∙ ap log_end h in clash cc)
 
 -- the records of a whole log, and where they end
 pub record Whole (log : List ℕ) (e : ℕ) : Type 0 where
@@ -84,12 +81,12 @@ pub record Whole (log : List ℕ) (e : ℕ) : Type 0 where
   pub ends : e ≡ end_of records
   pub inside : e ≤ length log
 
-pub is_whole : (log : List ℕ) → AllBytes log → (l : LogEnd) → l ≡ log_end (read_log log) → l.whole ≡ true → Whole log l.end
+pub is_whole : (log : List ℕ) → AllBytes log → {l : Place ℕ} → l ≡ log_end (read_log log) → (end : ℕ) → l ≡ Some end → Whole log end
 unfolding log_end
-is_whole log b l e w =
-    by-option (read_log log) (λ h. lie (sym (ap (λ (z : LogEnd). z.whole) (e ∙ ap log_end h)) ∙ w))
+is_whole log b e end w =
+    by-option (read_log log) (λ h. let k = sym w ∙ e ∙ ap log_end h in clash cc)
     (λ rs h.
-    let q : l.end ≡ end_of rs = ap (λ (z : LogEnd). z.end) (e ∙ ap log_end h) in
+    let q : end ≡ end_of rs = let k = sym w ∙ e ∙ ap log_end h in cc in
     let d = records_of_log log b rs h in
     let n = ap length d.is ∙ length-append (encode_records rs) d.rest in
     record { records = rs; read = h; ends = q; inside = omega (arith, q, n, length_records rs) })
@@ -133,7 +130,7 @@ module _ (log s s1 s2 : List ℕ) (st : Stage Store) (b : Began st s s1) (e : �
   unfolding forward_from
   from_log = begun log s s1 st b ∙ ap (λ o. forward_from log o (store_now s1)) w.read
 
-  pub refused_since : (v ≡ 0 → ⊥) → forward_below log st ≡ refuses v
+  refused_since : (v ≡ 0 → ⊥) → forward_below log st ≡ refuses v
   refused_since nz = from_log ∙ since_stop log w.records s1 s2 _ since nz
 
   module _ (z : v ≡ 0) where
@@ -156,12 +153,16 @@ module _ (log s s1 s2 : List ℕ) (st : Stage Store) (b : Began st s s1) (e : �
         unfolding end_forward if'◌then◌else◌
         ended = went.0 ∙ rw (ends, le-ltb (length log) (e + 2 * n) h)
 
-        pub restored : (s3 log3 : List ℕ) → Aborted s2 log e s3 log3 → {v : ℕ} → v ≡ e + 2 * n → RestoredBy (forward_below log st) s log (record { answer = Done; end = v }) s3 log3
+        pub restored : (s3 log3 : List ℕ) → Aborted s2 log e s3 log3 → RestoredBy (forward_below log st) s log (Ok (e + 2 * n)) s3 log3
         unfolding RestoredBy with_aborts
-        restored s3 log3 a {v} q =
-            subst (λ y. RestoredBy y s log (record { answer = Done; end = v }) s3 log3) (sym ended) (
-              refl,
-              q ∙ sym ends,
+        restored s3 log3 a =
+            subst (λ y. RestoredBy y s log (Ok (e + 2 * n)) s3 log3) (sym ended) (
+              sym ends,
               record { size = a.memory.size ∙ went.2; store = a.memory.store },
               a.bytes ∙ ap (λ y. over (zeroed_from y log) y (encode_records (aborts_of (store_now s2)))) w.ends,
             )
+
+pub stopped_since : {log s s1 : List ℕ} (s2 : List ℕ) {st : Stage Store} → Began st s s1 → {end : ℕ} → Whole log end → (e : Refusal)
+    → SinceBy (to_repeat (store_now s1).level (records_in (read_log log))) s1 (number e) s2 → (s' : List ℕ) → RestoredBy (forward_below log st) s log (Err e) s' log
+stopped_since {log} {s} {s1} s2 {st} b {end} w e r s' =
+    stopped _ s log s' e (refused_since log s s1 s2 st b end w (number e) r (λ z. omega (arith, z, number_positive e)))

@@ -1,11 +1,12 @@
 -- Records of a log repeated from a byte on: one further (`turn`, `going_next`, `going_stop`), or the end (`going_end`).
-use Rattle.basics.proofs.Kit.{◌≡◌, refl, sym, ap, ◌∙◌, subst, Bool, true, false, some, List, [], ◌∷◌, ◌++◌, ℕ, ◌+◌, ◌-◌, ◌≤◌, ◌<◌, min, length, take, drop, arith}
+use Rattle.basics.proofs.Kit.{◌≡◌, refl, sym, ap, ◌∙◌, subst, Bool, true, false, some, List, [], ◌∷◌, ◌++◌, ℕ, ◌+◌, ◌-◌, ◌≤◌, ◌<◌, min, length, take, drop, get_or, arith}
 use Rattle.basics.proofs.Kit.{drop-drop, take-append_seam}
 use Rattle.basics.specs.Basics.{if'◌then◌else◌}
 use Rattle.basics.proofs.Facts.{by-option, never}
 use Rattle.basics.proofs.Elements.{some_eq, all_drop}
 use Rattle.block_forms.specs.Numbers.{be4}
 use Rattle.block_forms.specs.Tuple.{Byte, AllBytes}
+use Rattle.block_forms.proofs.Spelled.{all_bytes}
 use Rattle.log_records.specs.Records.{LogRecord, opened_by, committed_by, aborted_by, inserted_by, replaced_by, deleted_by, mark_of, log_fields, log_size}
 use Rattle.log_records.specs.Records.{decode_record, ended, followed_by, read_log}
 use Rattle.log_records.specs.Laws.{Read}
@@ -84,7 +85,7 @@ unfolding entry_in entry_of if'◌then◌else◌
 entry_read xs r h d = rw (h, d)
 
 module _ (log : List ℕ) (b : AllBytes log) (p : ℕ) (qs : List LogRecord) (read : read_log (drop p log) ≡ some qs) {e : Entry} (q : e ≡ entry_in (drop p log)) {size : ℕ} (z : size ≡ entry_size e) where
-  pub turn : p ≤ length log → (size ≡ 0 → ⊥) → Turn log p size e qs
+  turn : p ≤ length log → (size ≡ 0 → ⊥) → Turn log p size e qs
   unfolding followed_by
   turn room going =
       let n = walk_next log b p q z room going in
@@ -138,6 +139,10 @@ going_start s log at h =
     }
 
 module _ {s₀ log : List ℕ} {at : ℕ} {s : List ℕ} {p : ℕ} (g : Going s₀ log at s p) where
+  -- the record that is next
+  pub going_turn : ((j : ℕ) → get_or log j 0 < 256) → {e : Entry} → e ≡ entry_in (drop p log) → {size : ℕ} → size ≡ entry_size e → (size ≡ 0 → ⊥) → Turn log p size e g.records
+  going_turn b q z h = turn log (all_bytes log b) p g.records g.read q z g.inside h
+
   pub going_end : g.records ≡ [] → AllRepeated (records_in (read_log (drop at log))) s₀ true s
   going_end e = left_end (subst (Left s₀ (records_in (read_log (drop at log))) s) e g.left)
 

@@ -1,5 +1,5 @@
 -- What each part of roll-forward needs and leaves.
-use Rattle.std.specs.Prelude.{ℕ, ◌+◌, ◌*◌, ◌≤◌, ◌<◌, ◌≡◌, Bool, true, List, [], ◌∷◌, length, drop}
+use Rattle.std.specs.Prelude.{ℕ, ◌+◌, ◌*◌, ◌≤◌, ◌<◌, ◌≡◌, Bool, true, List, [], ◌∷◌, length, drop, Result, Ok, Err}
 use Rattle.std.proofs.Math.Option.{Option, none, some}
 use Rattle.basics.specs.Basics.{if'◌then◌else◌, AllOf}
 use Rattle.basics.specs.Lists.{over}
@@ -17,9 +17,8 @@ use Rattle.log_model.specs.Repeats.{repeat, repeat_all, all_accepted}
 use Rattle.log_model.specs.RollForward.{Forward, aborts_of, zeroed_from}
 use Rattle.memory_layout.specs.Flat.{flat_of}
 use Rattle.memory_layout.specs.Store.{holds_store, store_of, HoldsNow}
-use Rattle.call_contracts.specs.Shape.{meaning}
-use Rattle.call_contracts.specs.declared.Logged.{Logged}
-use Rattle.model.specs.State as model
+use Rattle.refusals.specs.declared.Refusal.{Refusal}
+use Rattle.refusals.specs.Numbers.{number}
 
 -- the store in a memory that holds one
 abbrev pub store_now : List ℕ → Store
@@ -66,13 +65,6 @@ pub record MayOpen (m log : List ℕ) (at n : ℕ) : Type 0 where
   pub few : n ≤ open_limit
   pub inside : 8 * at + (48 + 12 * n) ≤ 8 * length log
 
--- how many transactions the mark that stands there carries
-unfoldable pub count_in : Entry → ℕ
-count_in End = 0
-count_in Malformed = 0
-count_in (Call c) = 0
-count_in (Mark l n) = n
-
 -- a memory that holds a store, and a mark and records behind it at byte `at` of a log
 pub record MayRepeatMarked (m log : List ℕ) (at : ℕ) : Type 0 where
   pub has_store : holds_store m ≡ true
@@ -107,7 +99,9 @@ pub record Aborted (m log : List ℕ) (e : ℕ) (m' log' : List ℕ) : Type 0 wh
 
 -- ---- all of it
 
--- refused: the log as found, and 0 for the end; else the memory holds the store, and log and end are those of the definition
-unfoldable pub RestoredBy : Stage Forward → List ℕ → List ℕ → Logged → List ℕ → List ℕ → Type 0
-RestoredBy (refuses k) m log r m' log' = (meaning r.answer [] ≡ model.refused k) × (r.end ≡ 0) × (log' ≡ log)
-RestoredBy (holds f) m log r m' log' = (meaning r.answer [] ≡ model.done) × (r.end ≡ f.end) × HoldsNow m m' f.store × (log' ≡ f.log)
+-- refused: the log as found; else the memory holds the store, and log and end are those of the definition
+unfoldable pub RestoredBy : Stage Forward → List ℕ → List ℕ → Result ℕ Refusal → List ℕ → List ℕ → Type 0
+RestoredBy (refuses k) m log (Ok end) m' log' = ⊥
+RestoredBy (refuses k) m log (Err e) m' log' = (number e ≡ k) × (log' ≡ log)
+RestoredBy (holds f) m log (Ok end) m' log' = (end ≡ f.end) × HoldsNow m m' f.store × (log' ≡ f.log)
+RestoredBy (holds f) m log (Err e) m' log' = ⊥

@@ -1,17 +1,15 @@
 -- A call whose record is appended where it was done meets the contract of a logged call.
-use Rattle.basics.proofs.Kit.{◌≡◌, refl, sym, ap, ◌∙◌, subst, ap₂, Bool, true, false, some, none, Option, List, [], ◌∷◌, ℕ, ◌+◌, ◌%◌, ◌≤◌, ◌<◌, mod-eq_of_lt, leb, ltb, length, lt-ltb, le-ltb, arith}
+use Rattle.basics.proofs.Kit.{◌≡◌, refl, sym, ap, ◌∙◌, subst, ap₂, Bool, true, false, some, none, Option, List, [], ℕ, ◌+◌, ◌%◌, ◌≤◌, ◌<◌, mod-eq_of_lt, leb, length, lt-ltb, le-ltb}
 use Rattle.basics.specs.Basics.{if'◌then◌else◌}
 use Rattle.basics.specs.Lists.{over}
 use Rattle.block_forms.specs.Limits.{transaction_limit}
 use Rattle.block_forms.specs.Tuple.{AllBytes}
-use Rattle.basics.proofs.Facts.{by, lie, never}
-use Rattle.basics.proofs.Elements.{leb-true, leb-false, some_eq}
+use Rattle.basics.proofs.Facts.{by, lie}
+use Rattle.basics.proofs.Elements.{leb-true, leb-false}
 use Rattle.model.specs.State.{Store, Outcome}
-use Rattle.model.specs.Transactions.{gives, unless, open_call, write_call, commit_call, abort_call, closing, with_tuple}
-use Rattle.model.specs.Checked.{insert_checked_call}
-use Rattle.model.specs.Calls.{TransactionCall, opens, inserts, inserts_checked, replaces, deletes, commits, aborts, reads, lists, crossings, transact, TypedCall, accepted, with_room}
-use Rattle.model.proofs.Effects.{unless_accepted}
-use Rattle.memory_layout.specs.Store.{store_in, HoldsNow}
+use Rattle.model.specs.Transactions.{gives}
+use Rattle.model.specs.Calls.{TransactionCall, opens, inserts, inserts_checked, replaces, deletes, commits, aborts, transact, TypedCall, accepted, with_room}
+use Rattle.memory_layout.specs.Store.{store_in}
 use Rattle.log_records.specs.Records.{LogRecord, opened_by, committed_by, aborted_by, inserted_by, replaced_by, deleted_by, RecordFits, short_fields, delete_fields, log_fields, log_size, encode_record}
 use Rattle.log_records.specs.Entries.{change_is, entry_as}
 use Rattle.log_records.specs.declared.Change.{Change}
@@ -20,47 +18,38 @@ use Rattle.log_records.specs.declared.Entry.TheVariants.{Call}
 use Rattle.log_records.proofs.Spelling.{tuple_size, size_of_change}
 use Rattle.log_model.specs.Logged.{record_of, LoggedOutcome, unlogged, appending, logging}
 use Rattle.log_model.proofs.Fitting.{call_fits}
-use Rattle.call_contracts.specs.Shape.{meaning, bytes_of, MemoryAfter, Afterwards, Answers, AnswersAt}
+use Rattle.call_contracts.specs.Shape.{Answer, meaning, is_accepted, bytes_of, Afterwards, Answers, AnswersAt}
+use Rattle.call_contracts.proofs.Answering.{accepted_means}
 use Rattle.call_contracts.specs.Logged.{LoggedAfter, LogsAt, Logs}
-use Rattle.call_contracts.specs.declared.Answer.{Answer}
-use Rattle.call_contracts.specs.declared.Answer.TheVariants.{Done, Count, Filled, Refused}
 use Rattle.call_contracts.specs.declared.Logged.{Logged}
-use Rattle.call_logged.specs.Appending.{taken, Ready, Appended}
+use Rattle.call_logged.specs.Appending.{Ready, Appended}
 use Rattle.model.specs.State as model
 
 -- ---- answers
 
--- an answer is no refusal exactly if the model's is none
-taken_means : (a : Answer) (bs : List ℕ) (o : model.Answer) → meaning a bs ≡ o → taken a ≡ accepted o
-unfolding taken accepted
-taken_means Done bs o e = ap accepted e
-taken_means (Count n) bs o e = ap accepted e
-taken_means (Filled n) bs o e = ap accepted e
-taken_means (Refused n) bs o e = ap accepted e
-
 -- with room or without: accepted only if there is room
-room_taken : (call : Store → Outcome) (s : Store) (b : Bool) → accepted (with_room b call s).answer ≡ true → (b ≡ true) × (accepted (call s).answer ≡ true)
+room_accepted : (call : Store → Outcome) (s : Store) (b : Bool) → accepted (with_room b call s).answer ≡ true → (b ≡ true) × (accepted (call s).answer ≡ true)
 unfolding accepted if'◌then◌else◌ gives
-room_taken call s true q = (refl, q)
-room_taken call s false q = by (accepted (call s).answer) (λ k. lie (rw k at q)) (λ k. lie (sym k ∙ (rw k at q)))
+room_accepted call s true q = (refl, q)
+room_accepted call s false q = by (accepted (call s).answer) (λ k. lie (rw k at q)) (λ k. lie (sym k ∙ (rw k at q)))
 
 -- ---- the contract
 
 -- the store that the memory holds, of a call that was accepted: there was room
-pub record Taken (call : Store → Outcome) (m : List ℕ) (room : Bool) : Type 0 where
+pub record Accepted (call : Store → Outcome) (m : List ℕ) (room : Bool) : Type 0 where
   pub store : Store
   pub is : store_in m ≡ some store
   pub room_is : room ≡ true
   pub accepts : accepted (call store).answer ≡ true
 
-pub was_taken : (call : Store → Outcome) (m : List ℕ) (room : Bool) (a : Answer) (m' : List ℕ) → Answers (with_room room call) m a m' → taken a ≡ true → Taken call m room
+pub was_accepted : (call : Store → Outcome) (m : List ℕ) (room : Bool) (a : Answer) (m' : List ℕ) → Answers (with_room room call) m a m' → is_accepted a ≡ true → Accepted call m room
 unfolding Answers AnswersAt
-was_taken call m room a m' ans d = go (store_in m) refl ans
+was_accepted call m room a m' ans d = go (store_in m) refl ans
   where
-    go : (o : Option Store) → store_in m ≡ o → AnswersAt o (with_room room call) m a m' → Taken call m room
-    go none e x = lie (unfold accepted in sym (taken_means a [] (model.refused 4) x.0) ∙ d)
+    go : (o : Option Store) → store_in m ≡ o → AnswersAt o (with_room room call) m a m' → Accepted call m room
+    go none e x = lie (unfold accepted in sym (accepted_means a [] (model.refused 4) x.0) ∙ d)
     go (some s) e x =
-        let k = room_taken call s room (sym (taken_means a _ (with_room room call s).answer x.answer) ∙ d) in
+        let k = room_accepted call s room (sym (accepted_means a _ (with_room room call s).answer x.answer) ∙ d) in
         record { store = s; is = e; room_is = k.0; accepts = k.1 }
 
 module _ (call : Store → Outcome) (rec : Store → LogRecord) (m log : List ℕ) (e : ℕ) (room : Bool) (a : Answer) (m' : List ℕ) (res : Logged) (log' : List ℕ) where
@@ -77,7 +66,7 @@ module _ (call : Store → Outcome) (rec : Store → LogRecord) (m log : List �
     unfolding logging unlogged if'◌then◌else◌
     stays n x =
         let y = subst (λ o. Afterwards o m a m') (same_outcome room) x in
-        let q = p.other (taken_means a _ (call s).answer y.answer ∙ n) in
+        let q = p.other (accepted_means a _ (call s).answer y.answer ∙ n) in
         rw n (record { answer = same_answer (call s) y.answer; memory = y.memory; log = q.0; end = q.1 })
       where
         same_outcome : (b : Bool) → with_room b call s ≡ call s
@@ -90,7 +79,7 @@ module _ (call : Store → Outcome) (rec : Store → LogRecord) (m log : List �
     full n q x =
         let o = gives (model.refused 29) s in
         let y = subst (λ z. Afterwards z m a m') (ap (λ b. with_room b call s) q ∙ refuses) x in
-        let k = p.other (taken_means a _ o.answer y.answer ∙ no) in
+        let k = p.other (accepted_means a _ o.answer y.answer ∙ no) in
         let f = lt-ltb (length log) (e + log_size (rec s)) (leb-false (e + log_size (rec s)) (length log) (sym er ∙ q)) in
         rw (n, f) (record { answer = same_answer o y.answer; memory = y.memory; log = k.0; end = k.1 })
       where
@@ -105,7 +94,7 @@ module _ (call : Store → Outcome) (rec : Store → LogRecord) (m log : List �
     unfolding logging appending if'◌then◌else◌
     appends n q x =
         let y = subst (λ b. Afterwards (with_room b call s) m a m') q x in
-        let k = p.done (taken_means a _ (call s).answer y.answer ∙ n) in
+        let k = p.done (accepted_means a _ (call s).answer y.answer ∙ n) in
         let f = le-ltb (length log) (e + log_size (rec s)) (leb-true (e + log_size (rec s)) (length log) (sym er ∙ q)) in
         rw (n, f) (record { answer = same_answer (call s) y.answer; memory = y.memory; log = k.0; end = k.1 })
 
@@ -117,7 +106,7 @@ module _ (call : Store → Outcome) (rec : Store → LogRecord) (m log : List �
       go : (o : Option Store) → store_in m ≡ o → AnswersAt o (with_room room call) m a m' → LogsAt o (λ s. logging (rec s) (call s) s log e) m log e res m' log'
       go none h x =
           let p = (none-case h).1 in
-          let k = p.other (taken_means a [] (model.refused 4) x.0 ∙ (unfold accepted in refl)) in
+          let k = p.other (accepted_means a [] (model.refused 4) x.0 ∙ (unfold accepted in refl)) in
           (ap (λ z. meaning z []) p.answer ∙ x.0, k.1, x.1, k.0)
       go (some s) h x =
           let c = some-case s h in
@@ -126,7 +115,7 @@ module _ (call : Store → Outcome) (rec : Store → LogRecord) (m log : List �
           (λ n. stays s c.0 c.1 n x)
 
 -- a refusal is handed on, and nothing is appended
-pub handed_on : (a : Answer) (r : LogRecord) (log : List ℕ) (e : ℕ) (res : Logged) → taken a ≡ false → res.answer ≡ a → res.end ≡ e → Appended a r log e res log
+pub handed_on : (a : Answer) (r : LogRecord) (log : List ℕ) (e : ℕ) (res : Logged) → is_accepted a ≡ false → res.answer ≡ a → res.end ≡ e → Appended a r log e res log
 handed_on a r log e res n h k = record { answer = h; done = λ d. lie (sym n ∙ d); other = λ q. (refl, k) }
 
 -- ---- the change that the code appends
@@ -144,9 +133,9 @@ module _ (c : TransactionCall) (r : LogRecord) (ch : Change) (bs : List ℕ) (n 
   er' : room ≡ leb (e + log_size r) (length log)
   er' = er ∙ ap (λ k. leb (e + k) (length log)) (sym w.size)
 
-  in_range_lem : taken a ≡ true → RecordFits r × (e + log_size r ≤ length log)
+  in_range_lem : is_accepted a ≡ true → RecordFits r × (e + log_size r ≤ length log)
   in_range_lem d =
-      let k = was_taken (transact c) m room a m' ans d in
+      let k = was_accepted (transact c) m room a m' ans d in
       (call_fits c k.store r w.typed w.logged k.accepts, leb-true (e + log_size r) (length log) (sym er' ∙ k.room_is))
 
   pub ready : Ready a log e ch bs

@@ -1,5 +1,5 @@
 -- The mark of a begin: its fields are in range, and it is the one that the rules ask for.
-use Rattle.basics.proofs.Kit.{◌≡◌, refl, sym, ap, ◌∙◌, subst, ap₂, true, false, some, none, List, [], ◌∷◌, ℕ, suc, ◌+◌, ◌≤◌, ◌<◌, add-one, eqb, eq-eqb, length, arith}
+use Rattle.basics.proofs.Kit.{◌≡◌, refl, sym, ap, ◌∙◌, subst, ap₂, true, false, some, List, ℕ, suc, ◌+◌, ◌≤◌, ◌<◌, add-one, eqb, eq-eqb, length, arith}
 use Rattle.basics.specs.Basics.{sorted}
 use Rattle.basics.proofs.Facts.{lie}
 use Rattle.basics.proofs.Elements.{all_in, in_all, some_eq}
@@ -18,11 +18,11 @@ use Rattle.log_records.specs.Records.{mark_of, MarkFits}
 use Rattle.log_model.specs.Logged.{unwritten, mark_for}
 use Rattle.engine_opens.specs.Order.{unwritten_numbers, Low}
 use Rattle.call_contracts.specs.Logged.{Logs, LogsAt}
-use Rattle.call_contracts.specs.declared.Answer.TheVariants.{Refused}
-use Rattle.model.specs.State as model
+use Rattle.std.specs.Prelude.{Err}
+use Rattle.refusals.specs.declared.Refusal.TheVariants.{NoStore}
 
 -- without a store
-pub logs_4 : (m log : List ℕ) (e : ℕ) → holds_store m ≡ false → Logs begin_call mark_for m log e (record { answer = Refused 4; end = e }) m log
+pub logs_4 : (m log : List ℕ) (e : ℕ) → holds_store m ≡ false → Logs begin_call mark_for m log e (record { answer = Err NoStore; end = e }) m log
 unfolding Logs LogsAt
 logs_4 m log e h = rw (in_none m h) (refl, refl, refl, refl)
 

@@ -8,34 +8,18 @@ ghost use Rattle.log_records.specs.Records.{opened_by, committed_by, aborted_by,
 ghost use Rattle.log_model.specs.Logged.{mark_for};
 ghost use Rattle.log_records.specs.Entries.{change_is};
 ghost use Rattle.call_contracts.specs.Logged.{Logs};
-ghost use Rattle.call_logged.specs.Appending.{taken, Ready, ReadyMark, Appended};
+ghost use Rattle.call_logged.specs.Appending.{Ready, ReadyMark, Appended};
 
 use call_contracts::{Answer, Logged};
-use log_records::Change;
+use log_records::{Change, PLACE, SHORT};
+use refusals::Refusal;
 
 // A transaction has 12 bits, and there are eight tables: all that an accepted call lets through.
 const TRANSACTIONS: u64 = block_forms::TRANSACTIONS as u64;
 
 const TABLES: u64 = call_transactions::TABLE_LIMIT + 1;
 
-// The bytes of a record of a transaction alone, and of a tuple's before its payload.
-const SHORT: usize = 2;
-
-const PLACE: usize = 8;
-
 const OPEN_LIMIT: usize = memory_layout::OPEN_LIMIT as usize;
-
-// Whether the call was not refused.
-fn taken(a: Answer) -> bool
-    ensures { result ≡ taken a }
-{
-    match a {
-        Answer::Done => true,
-        Answer::Count(_) => true,
-        Answer::Filled(_) => true,
-        Answer::Refused(_) => false,
-    }
-}
 
 // Whether head + more bytes fit a log of len bytes, from its end on.
 fn has_room(len: usize, end: u64, head: usize, more: usize) -> bool
@@ -52,33 +36,38 @@ fn has_room(len: usize, end: u64, head: usize, more: usize) -> bool
 }
 
 // Appends the record of a call that was accepted, and hands its answer on.
-fn append_taken(a: Answer, log: &mut [u8], end: u64, c: Change, payload: &[u8]) -> Logged
-    requires { Ready a log.old end c payload.now }
-    ensures { Appended a (change_is c payload.now) log.old end result log.new }
+fn append_accepted(
+    answer: Answer,
+    log: &mut [u8],
+    end: u64,
+    change: Change,
+    payload: &[u8],
+) -> Logged
+    requires { Ready answer log.old end change payload.now }
+    ensures { Appended answer (change_is change payload.now) log.old end result log.new }
 {
-    if !taken(a) {
-        return Logged {
-            answer: a,
-            end: end,
-        };
+    if answer.is_err() {
+        return Logged { answer, end };
     }
-    let size = log_records::change_size(c) as u64;
-    log_records::append(log, end as usize, c, payload);
+    let size = log_records::change_size(change) as u64;
+    log_records::append(log, end as usize, change, payload);
     Logged {
-        answer: a,
+        answer,
         end: end + size,
     }
 }
 
+// Each call below asks for room, makes the plain call and appends its record. A function over a closure for the plain call would be no plainer: it
+// saves a line in each, and asks for a contract of what the closure answers.
 pub fn logged_open(m: &mut [u8], log: &mut [u8], end: u64, transaction: u64) -> Logged
     ensures { Logs (open_call transaction) (λ s. opened_by transaction) m.old log.old end result m.new log.new }
 {
     let room = has_room(log.len(), end, SHORT, 0);
-    let a = call_transactions::open_if(m, room, transaction);
-    let c = Change::Open {
+    let answer = call_transactions::open_if(m, room, transaction);
+    let change = Change::Open {
         transaction: (transaction % TRANSACTIONS) as u32,
     };
-    append_taken(a, log, end, c, b"")
+    append_accepted(answer, log, end, change, b"")
 }
 
 pub fn logged_insert(
@@ -93,14 +82,23 @@ pub fn logged_insert(
     ensures { Logs (insert_call transaction table key payload.now) (λ s. inserted_by transaction table key payload.now) m.old log.old end result m.new log.new }
 {
     let room = has_room(log.len(), end, PLACE, payload.len());
-    let a = call_transactions::write_if(m, room, true, transaction, table, key, false, payload);
-    let c = Change::Insert {
+    let answer = call_transactions::write_if(
+        m,
+        room,
+        true,
+        transaction,
+        table,
+        key,
+        false,
+        payload,
+    );
+    let change = Change::Insert {
         transaction: (transaction % TRANSACTIONS) as u32,
         table: (table % TABLES) as u32,
-        key: key,
+        key,
         len: payload.len(),
     };
-    append_taken(a, log, end, c, payload)
+    append_accepted(answer, log, end, change, payload)
 }
 
 // The record of a checked insert is that of the insert.
@@ -117,14 +115,14 @@ pub fn logged_insert_checked(
     ensures { Logs (insert_checked_call transaction table key payload.now hours.now) (λ s. inserted_by transaction table key payload.now) m.old log.old end result m.new log.new }
 {
     let room = has_room(log.len(), end, PLACE, payload.len());
-    let a = call_checked::insert_checked_if(m, room, transaction, table, key, payload, hours);
-    let c = Change::Insert {
+    let answer = call_checked::insert_checked_if(m, room, transaction, table, key, payload, hours);
+    let change = Change::Insert {
         transaction: (transaction % TRANSACTIONS) as u32,
         table: (table % TABLES) as u32,
-        key: key,
+        key,
         len: payload.len(),
     };
-    append_taken(a, log, end, c, payload)
+    append_accepted(answer, log, end, change, payload)
 }
 
 pub fn logged_replace(
@@ -139,14 +137,23 @@ pub fn logged_replace(
     ensures { Logs (replace_call transaction table key payload.now) (λ s. replaced_by transaction table key payload.now) m.old log.old end result m.new log.new }
 {
     let room = has_room(log.len(), end, PLACE, payload.len());
-    let a = call_transactions::write_if(m, room, false, transaction, table, key, false, payload);
-    let c = Change::Replace {
+    let answer = call_transactions::write_if(
+        m,
+        room,
+        false,
+        transaction,
+        table,
+        key,
+        false,
+        payload,
+    );
+    let change = Change::Replace {
         transaction: (transaction % TRANSACTIONS) as u32,
         table: (table % TABLES) as u32,
-        key: key,
+        key,
         len: payload.len(),
     };
-    append_taken(a, log, end, c, payload)
+    append_accepted(answer, log, end, change, payload)
 }
 
 pub fn logged_delete(
@@ -160,54 +167,57 @@ pub fn logged_delete(
     ensures { Logs (delete_call transaction table key) (λ s. deleted_by transaction table key) m.old log.old end result m.new log.new }
 {
     let room = has_room(log.len(), end, PLACE, 0);
-    let a = call_transactions::write_if(m, room, false, transaction, table, key, true, b"");
-    let c = Change::Delete {
+    let answer = call_transactions::write_if(m, room, false, transaction, table, key, true, b"");
+    let change = Change::Delete {
         transaction: (transaction % TRANSACTIONS) as u32,
         table: (table % TABLES) as u32,
-        key: key,
+        key,
     };
-    append_taken(a, log, end, c, b"")
+    append_accepted(answer, log, end, change, b"")
 }
 
 pub fn logged_commit(m: &mut [u8], log: &mut [u8], end: u64, transaction: u64) -> Logged
     ensures { Logs (commit_call transaction) (λ s. committed_by transaction) m.old log.old end result m.new log.new }
 {
     let room = has_room(log.len(), end, SHORT, 0);
-    let a = call_transactions::end_if(m, room, transaction, true);
-    let c = Change::Commit {
+    let answer = call_transactions::end_if(m, room, transaction, true);
+    let change = Change::Commit {
         transaction: (transaction % TRANSACTIONS) as u32,
     };
-    append_taken(a, log, end, c, b"")
+    append_accepted(answer, log, end, change, b"")
 }
 
 pub fn logged_abort(m: &mut [u8], log: &mut [u8], end: u64, transaction: u64) -> Logged
     ensures { Logs (abort_call transaction) (λ s. aborted_by transaction) m.old log.old end result m.new log.new }
 {
     let room = has_room(log.len(), end, SHORT, 0);
-    let a = call_transactions::end_if(m, room, transaction, false);
-    let c = Change::Abort {
+    let answer = call_transactions::end_if(m, room, transaction, false);
+    let change = Change::Abort {
         transaction: (transaction % TRANSACTIONS) as u32,
     };
-    append_taken(a, log, end, c, b"")
+    append_accepted(answer, log, end, change, b"")
 }
 
 // ---- begin
 
 // Appends the mark of a begin that was accepted at this level, and hands its answer on.
-fn append_begun(a: Answer, log: &mut [u8], end: u64, level: u32, transactions: &[u32]) -> Logged
-    requires { ReadyMark a log.old end (level + 1) transactions.now }
-    ensures { Appended a (mark_of (level + 1) transactions.now) log.old end result log.new }
+fn append_begun(
+    answer: Answer,
+    log: &mut [u8],
+    end: u64,
+    level: u32,
+    transactions: &[u32],
+) -> Logged
+    requires { ReadyMark answer log.old end (level + 1) transactions.now }
+    ensures { Appended answer (mark_of (level + 1) transactions.now) log.old end result log.new }
 {
-    if !taken(a) {
-        return Logged {
-            answer: a,
-            end: end,
-        };
+    if answer.is_err() {
+        return Logged { answer, end };
     }
     let size = log_records::mark_size(transactions.len()) as u64;
     log_records::append_mark(log, end as usize, level + 1, transactions);
     Logged {
-        answer: a,
+        answer,
         end: end + size,
     }
 }
@@ -218,14 +228,14 @@ pub fn logged_begin(m: &mut [u8], log: &mut [u8], end: u64) -> Logged
 {
     if !memory_layout::holds_store(m) {
         return Logged {
-            answer: Answer::Refused(4),
-            end: end,
+            answer: Err(Refusal::NoStore),
+            end,
         };
     }
     let h = memory_layout::get_head(m);
     let mut numbers = [0u32; OPEN_LIMIT];
     let n = engine_opens::sort_unwritten(m, &mut numbers);
     let room = has_room(log.len(), end, log_records::mark_size(n), 0);
-    let a = call_checkpoint::begin_if(m, room);
-    append_begun(a, log, end, h.level, &numbers[..n])
+    let answer = call_checkpoint::begin_if(m, room);
+    append_begun(answer, log, end, h.level, &numbers[..n])
 }

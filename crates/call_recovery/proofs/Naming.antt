@@ -1,7 +1,7 @@
 -- The blocks that the directory and the header name, one after the other.
 use Rattle.basics.proofs.Kit.{◌≡◌, refl, sym, ap, ◌∙◌, subst, Bool, true, some, none, Option, List, [], ◌∷◌, ◌++◌, append_assoc, append-nil, map, ℕ, suc, ◌+◌, ◌≤◌, ◌<◌, zero}
 use Rattle.basics.proofs.Kit.{add-one, ltb, length, take, drop}
-use Rattle.basics.proofs.Kit.{get_or, length-append, take-append-drop, length-map, take_all, take-suc, lt-ltb, ltb-true, arith}
+use Rattle.basics.proofs.Kit.{get_or, length-append, take-append-drop, length-map, take-suc, lt-ltb, ltb-true, arith}
 use Rattle.basics.specs.Basics.{all, is_some}
 use Rattle.basics.proofs.Facts.{and_true}
 use Rattle.basics.proofs.Lists.{all_get, all_weak}
@@ -111,9 +111,6 @@ module _ (v : View) where
   unfolding pages_at
   loading_start m es r o = loads_none r o refl
 
-  pub loading_end : {m m1 : List ℕ} (es : List ℕ) (i : ℕ) → length es ≤ i → Loads (pages_at v (take i es)) m m1 → Loads (pages_at v es) m m1
-  loading_end {m} {m1} es i h a = subst (λ (z : List ℕ). Loads (pages_at v z) m m1) (take_all i es h) a
-
 -- ---- blocks in use
 
 -- the blocks bs are in use
@@ -134,6 +131,3 @@ marking_iteration {m} {m1} {m2} bs i {b} h q a c =
     let e : used_and b (used_by (take i bs) u) ≡ used_by (take (i + 1) bs) u =
     used_one b (used_by (take i bs) u) ∙ used_then (take i bs) (b ∷ []) u ∙ ap (λ (z : List ℕ). used_by z u) t in
     becomes_as (λ k. with_used (flat_of m) (e k)) d
-
-pub marking_end : {m m1 : List ℕ} (bs : List ℕ) (i : ℕ) → length bs ≤ i → Marked (take i bs) m m1 → Marked bs m m1
-marking_end {m} {m1} bs i h a = subst (λ (z : List ℕ). Marked z m m1) (take_all i bs h) a

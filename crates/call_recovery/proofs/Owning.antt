@@ -8,6 +8,9 @@ use Rattle.basics.proofs.Kit.{drop-cons, take_all, take-suc, get_or-set_same, ge
 use Rattle.basics.specs.Basics.{if'◌then◌else◌, any, how_many}
 use Rattle.basics.proofs.Facts.{by}
 use Rattle.block_forms.specs.Tuple.{Owner, committed, tentative, OwnerFits}
+use Rattle.block_forms.specs.Bytes.{owner_is}
+use Rattle.block_forms.specs.declared.Owner.{Owner as OwnerRead}
+use Rattle.block_forms.specs.declared.Owner.TheVariants.{Committed, Tentative}
 use Rattle.image_rows.specs.Rows.{Row, is_by, is_own, add_owner, transactions}
 use Rattle.image_rows.proofs.Owners.{in_transactions}
 use Rattle.model.specs.State.{Held, Active}
@@ -54,10 +57,10 @@ noted_counts (tentative u s) r {rs} {xs} f e k =
           omega (arith, k.each t l, own_more t rs r (own_by t r e ∙ h)));
     }
 
-pub noted_by : {o : Owner} {t s k : ℕ} (xs : List ℕ) → o ≡ tentative t s → k ≡ t → (v : ℕ) → v ≡ get_or xs k 0 + 1 → set xs k v ≡ noted o xs
-unfolding noted
-noted_by {o} {t} {s} {k} xs e q v h =
-    ap (set xs k) h ∙ ap (λ (n : ℕ). set xs n (get_or xs n 0 + 1)) q ∙ sym (ap (λ (x : Owner). noted x xs) e)
+-- an owner that is no transaction
+pub is_settled : (o : OwnerRead) → ((t s : ℕ) → o ≡ Tentative t s → ⊥) → owner_is o ≡ committed
+is_settled Committed n = refl
+is_settled (Tentative t s) n = absurd (n t s refl)
 
 pub no_counts : Counts [] (replicate transaction_limit 0)
 unfolding how_many
@@ -122,16 +125,14 @@ last_opened (tentative t s) {all} {ps} rs {xs} {ys} f a b e =
     let l : how_many (is_own t) rs ≤ 0 = ltb-false 0 (how_many (is_own t) rs) (sym (any_many (is_own t) rs) ∙ h) in
     rw (h, eq-eqb (get_or ys t 0) (get_or xs t 0) (omega arith)) (λ i. record { transaction = t; written = x i } ∷ []))
 
-module _ {o : Owner} (t s k : ℕ) (cs ps : List ℕ) (e : o ≡ tentative t s) (q : k ≡ t) where
-  pub opened_other : (get_or ps k 0 ≡ get_or cs k 0 → ⊥) → opened_by o cs ps ≡ []
+module _ {o : Owner} (t s : ℕ) (cs ps : List ℕ) (e : o ≡ tentative t s) where
+  pub opened_other : (get_or ps t 0 ≡ get_or cs t 0 → ⊥) → opened_by o cs ps ≡ []
   unfolding opened_by if'◌then◌else◌
-  opened_other h = ap (λ (x : Owner). opened_by x cs ps) e ∙ ap (λ (n : ℕ). opened_by (tentative n s) cs ps) (sym q) ∙ rw (ne_eqb (get_or ps k 0) (get_or cs k 0) h)
+  opened_other h = ap (λ (x : Owner). opened_by x cs ps) e ∙ rw (ne_eqb (get_or ps t 0) (get_or cs t 0) h)
 
-  pub opened_last : get_or ps k 0 ≡ get_or cs k 0 → opened_by o cs ps ≡ record { transaction = t; written = get_or cs k 0 } ∷ []
+  pub opened_last : get_or ps t 0 ≡ get_or cs t 0 → opened_by o cs ps ≡ record { transaction = t; written = get_or cs t 0 } ∷ []
   unfolding opened_by if'◌then◌else◌
-  opened_last h =
-      ap (λ (x : Owner). opened_by x cs ps) e ∙ ap (λ (n : ℕ). opened_by (tentative n s) cs ps) (sym q)
-      ∙ rw (eq-eqb (get_or ps k 0) (get_or cs k 0) h) (λ i. record { transaction = q i; written = get_or cs k 0 } ∷ [])
+  opened_last h = ap (λ (x : Owner). opened_by x cs ps) e ∙ rw (eq-eqb (get_or ps t 0) (get_or cs t 0) h)
 
 pub opened_settled : {o : Owner} (cs ps : List ℕ) → o ≡ committed → opened_by o cs ps ≡ []
 unfolding opened_by

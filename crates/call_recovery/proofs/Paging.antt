@@ -2,13 +2,15 @@
 use Rattle.block_forms.specs.Limits.{block_limit}
 use Rattle.basics.proofs.Kit.{◌≡◌, refl, sym, ap, ◌∙◌, subst, true, Option, List, [], ◌∷◌, ◌++◌, append_assoc, append-nil, map, ℕ, ◌+◌, ◌≤◌, ◌<◌, zero-add, leb, length}
 use Rattle.basics.proofs.Kit.{get_or, length-append, length-map, leb-true, arith}
+use Rattle.std.specs.Prelude.{Some}
 use Rattle.basics.specs.Basics.{is_some}
 use Rattle.basics.proofs.Lists.{map_append, all_get}
 use Rattle.block_forms.specs.Tuple.{Tuple}
 use Rattle.block_forms.specs.Block.{Block, PageBlock, as_page}
 use Rattle.block_forms.specs.Decode.{decode_block}
 use Rattle.block_reader.specs.Answers.{reading}
-use Rattle.block_reader.specs.declared.Reading.TheVariants.{IsPage}
+use Rattle.block_reader.specs.declared.Block.TheVariants.{Page}
+use Rattle.block_reader.specs.declared.PageHead.{PageHead}
 use Rattle.block_reader.proofs.Answering.{is_page}
 use Rattle.block_forms.proofs.Laws.{page_read}
 use Rattle.image.specs.View.{view, block_at}
@@ -20,7 +22,7 @@ use Rattle.memory_layout.specs.declared.Entry.{Entry}
 use Rattle.memory_layout.proofs.Laws.{becomes_none, becomes_then}
 use Rattle.memory_rows.specs.Cells.{InOrder}
 use Rattle.memory_pages.specs.Pages.{MayAppend, clean, behind, EntriesBecome}
-use Rattle.call_recovery.specs.Loading.{page_at, tuples_in, helds_of, entry_for, last_more, with_pages, TablesRise, Fills, Loads, RoomFor, RowsFit}
+use Rattle.call_recovery.specs.Loading.{page_at, tuples_in, helds_of, entry_for, last_more, with_pages, TablesRise, Fills, Loads, RoomFor, PageIn, PagesFit, RowsFit}
 use Rattle.call_recovery.proofs.Adding.{becomes_as, last_more_lem}
 
 -- ---- a block that was read
@@ -31,11 +33,11 @@ pub record Here (e t n : ℕ) (o : Option PageBlock) : Type 0 where
   pub count : length (tuples_in o) ≡ n
   pub stored : page_at e o ≡ record { block = e; table = t; tuples = tuples_in o } ∷ []
 
-pub here : (e : ℕ) {t n l : ℕ} (b : Block) → IsPage t n l ≡ reading b → Here e t n (as_page b)
+pub here : (e : ℕ) {h : PageHead} (b : Block) → Some (Page h) ≡ reading b → Here e h.table h.count (as_page b)
 unfolding is_some tuples_in page_at
 here e b q = let p = is_page b q in rw p.is (record { is = refl; count = p.count; stored = refl })
 
-pub table_small : (xs : List ℕ) {t n l : ℕ} → IsPage t n l ≡ reading (decode_block xs) → t < 8
+table_small : (xs : List ℕ) {h : PageHead} → Some (Page h) ≡ reading (decode_block xs) → h.table < 8
 table_small xs q = (page_read xs (is_page (decode_block xs) q).is).range.table
 
 pub seen_here : (img : List ℕ) {bs : List ℕ} (e : ℕ) → bs ≡ block_at img e → decode_block bs ≡ view img e
@@ -49,7 +51,7 @@ pub record OneFits (e t n : ℕ) (f : Flat) : Type 0 where
   pub may : MayAppend f t e
   pub rows : length f.rows + n ≤ f.head.capacity
 
-pub one_fits : {e t n : ℕ} {o : Option PageBlock} {f : Flat} → e < block_limit → t < 8 → 1 ≤ f.head.capacity → Here e t n o → RoomFor (page_at e o) f → OneFits e t n f
+one_fits : {e t n : ℕ} {o : Option PageBlock} {f : Flat} → e < block_limit → t < 8 → 1 ≤ f.head.capacity → Here e t n o → RoomFor (page_at e o) f → OneFits e t n f
 unfolding helds_of TablesRise
 one_fits {e} {t} {n} {o} {f} he ht hc h r =
     let ts : List Tuple = tuples_in o in
@@ -64,6 +66,13 @@ one_fits {e} {t} {n} {o} {f} he ht hc h r =
       };
       rows = omega (arith, q.rows);
     }
+
+-- the page in block e, whose head was read, may stand behind the others
+pub page_fits : {img bs m : List ℕ} (e : ℕ) {h : PageHead} → bs ≡ block_at img e → Some (Page h) ≡ reading (decode_block bs) → PageIn img e
+    → PagesFit (page_at e (as_page (view img e))) m → OneFits e h.table h.count (flat_of m)
+page_fits {img} {bs} {m} e b q p f =
+    let r : RoomFor (page_at e (as_page (decode_block bs))) (flat_of m) = subst (λ (x : Block). RoomFor (page_at e (as_page x)) (flat_of m)) (sym (seen_here img e b)) f.fit in
+    one_fits p.low (table_small bs q) f.room.range.least (here e (decode_block bs) q) r
 
 -- behind the new page, which has no row
 pub page_room : {m m1 : List ℕ} {e t n : ℕ} → EntriesBecome m m1 (behind (clean t e 0)) × InOrder m1 → OneFits e t n (flat_of m)

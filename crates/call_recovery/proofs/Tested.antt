@@ -17,7 +17,7 @@ use Rattle.image.proofs.Staged.{Passing, passing, entries_count, refuses-holds, 
 use Rattle.model.proofs.Bytes.{view_sane, blocks_whole}
 use Rattle.model.proofs.Start.{Read, pages_read}
 use Rattle.model.proofs.Whole.{tested as read-tested}
-use Rattle.call_recovery.specs.Loading.{page_at, pages_at, blocks_in}
+use Rattle.call_recovery.specs.Loading.{page_at, pages_at, blocks_in, MayLayOut}
 
 -- ---- as many entries as pages
 
@@ -102,6 +102,10 @@ sure img h es ps e q b =
       opens = r.1.0;
       follow = r.1.1;
     }
+
+-- what is asked where a store is laid out
+pub laid_sure : {img : List ℕ} {h : Header} {es m : List ℕ} → MayLayOut img h es m → Sure img h es (pages_at (view img) es)
+laid_sure p = sure _ _ _ _ p.header p.pages p.blocks
 
 -- the pages of the entries are those that were tested
 pub pages_there : (v : View) (h : Header) (es : List ℕ) (ps : List StoredPage) → pages_stage v h ≡ holds ps → blocks_in ps ≡ es → pages_at v es ≡ ps

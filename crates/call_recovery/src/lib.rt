@@ -1,5 +1,7 @@
 // Recovery: what an image holds, laid out in the working memory. All tests come first; only then is the memory touched. Rows and pages
 // are appended in the image's order, so that loading takes one pass.
+#![tactic(auto)]
+
 ghost use Rattle.std.specs.Prelude.{◌≡◌, true, ◌++◌, map};
 ghost use Rattle.basics.specs.Basics.{all};
 ghost use Rattle.block_forms.specs.Limits.{block_limit};
@@ -20,20 +22,12 @@ ghost use Rattle.call_contracts.specs.Shape.{Recovered};
 ghost use Rattle.call_recovery.specs.Loading.{page_at, pages_at, tuples_in, used_by, row_for, Fills, Loads, Loadable, RowsFit, PageBytes, PageIn, PagesIn, PagesFit, MayLayOut};
 ghost use Rattle.call_recovery.specs.Reopening.{own_rows, Counts, Sized, noted, opened_by, MayCount, MayOpen, MayOpenAll, MayOpenOne};
 
-use block_forms::{Header, Owner, Record};
-use call_contracts::Answer;
+use block_forms::{Header, Owner, Record, TRANSACTIONS};
+use block_reader::Cursor;
+use call_contracts::{Answer, Reply};
 use memory_layout::{Head, Open};
 use memory_rows::{Pending, Row};
-
-// How many transactions there may be.
-const TRANSACTIONS: usize = block_forms::TRANSACTIONS;
-
-// The same number, as a size.
-fn wide(x: u32) -> usize
-    ensures { result ≡ x }
-{
-    x as usize
-}
+use refusals::Refusal;
 
 // ---- the rows of a page
 
@@ -41,11 +35,10 @@ fn wide(x: u32) -> usize
 fn row_of(r: Record) -> Row
     ensures { result ≡ row_for r }
 {
-    let o = r.owner;
     Row {
         key: r.key,
         number: r.number,
-        owner: o,
+        owner: r.owner,
         mark: r.mark,
         pending: Pending::Nothing,
     }
@@ -56,10 +49,7 @@ fn load_row(block: &[u8], r: Record, m: &mut [u8])
     requires { Loadable r block.now × RowsFit 1 m.old }
     ensures { RowsBecome m.old m.new (behind (without_pending (tuple_of r (payload_in block.now r)))) more_last × InOrder m.new }
 {
-    let from = r.start;
-    let to = from + r.len;
-    let row = row_of(r);
-    memory_pages::append_row(m, row, &block[from..to]);
+    memory_pages::append_row(m, row_of(r), &block[r.start..r.start + r.len]);
 }
 
 // The rows of a page's tuples, behind those that are there, on the last page.
@@ -67,19 +57,13 @@ fn load_rows(block: &[u8], count: u32, m: &mut [u8])
     requires { PageBytes count block.now × RowsFit count m.old }
     ensures { Fills (map without_pending (tuples_in (as_page (decode_block block.now)))) m.old m.new }
 {
-    let mut at: usize = block_forms::PageLayout::HEAD_SIZE;
-    let mut i: u32 = 0;
-    while i < count {
-        match (block_reader::Cursor { at: at }).next(block) {
-            block_reader::Next::Found(r, c) => {
-                load_row(block, r, m);
-                at = c.at;
-            }
-            block_reader::Next::Bad => {
-                return;
-            }
-        }
-        i += 1;
+    let mut cursor = Cursor::first();
+    for i in 0..count {
+        let Some((r, next)) = cursor.next(block) else {
+            unreachable!()
+        };
+        load_row(block, r, m);
+        cursor = next;
     }
 }
 
@@ -91,19 +75,9 @@ fn load_page(image: &[u8], e: usize, m: &mut [u8])
     ensures { Loads (page_at e (as_page (view image.now e))) m.old m.new }
 {
     let block = image::block_at(image, e);
-    match block_reader::known_page(&block) {
-        block_reader::Reading::IsPage {
-            table,
-            count,
-            level: _,
-        } => {
-            memory_pages::append_page(m, table as u8, e as u16);
-            load_rows(&block, count, m);
-        }
-        _ => {
-            return;
-        }
-    }
+    let page = block_reader::known_page(&block);
+    memory_pages::append_page(m, page.table as u8, e as u16);
+    load_rows(&block, page.count, m);
 }
 
 // The pages in the blocks that the entries name, in their order.
@@ -111,10 +85,8 @@ fn load_pages(image: &[u8], entries: &[u32], m: &mut [u8])
     requires { PagesIn image.now entries.now × PagesFit (pages_at (view image.now) entries.now) m.old }
     ensures { Loads (pages_at (view image.now) entries.now) m.old m.new }
 {
-    let mut i: usize = 0;
-    while i < entries.len() {
-        load_page(image, wide(entries[i]), m);
-        i += 1;
+    for &e in entries {
+        load_page(image, e as usize, m);
     }
 }
 
@@ -123,10 +95,8 @@ fn mark_blocks(bs: &[u32], m: &mut [u8])
     requires { (all (block_ok block_limit) bs.now ≡ true) × Room m.old }
     ensures { Becomes m.old m.new (with_used (flat_of m.old) (used_by bs.now (flat_of m.old).used)) }
 {
-    let mut i: usize = 0;
-    while i < bs.len() {
-        memory_layout::mark_used(m, wide(bs[i]));
-        i += 1;
+    for &b in bs {
+        memory_layout::mark_used(m, b as usize);
     }
 }
 
@@ -137,15 +107,8 @@ fn note(counts: &mut [u32], o: Owner)
     requires { Sized counts.old × OwnerFits (owner_is o) }
     ensures { counts.new ≡ noted (owner_is o) counts.old }
 {
-    match o {
-        Owner::Committed => {}
-        Owner::Tentative {
-            transaction,
-            statement: _,
-        } => {
-            let t = wide(transaction);
-            counts[t] = counts[t] + 1;
-        }
+    if let Owner::Tentative { transaction, .. } = o {
+        counts[transaction as usize] += 1;
     }
 }
 
@@ -154,11 +117,9 @@ fn count_rows(m: &[u8], counts: &mut [u32])
     requires { MayCount m.now counts.old }
     ensures { Counts (own_rows (flat_of m.now)) counts.new }
 {
-    let n = wide(memory_layout::get_counts(m).rows);
-    let mut i: usize = 0;
-    while i < n {
+    let n = memory_layout::get_counts(m).rows as usize;
+    for i in 0..n {
         note(counts, memory_rows::owner_at(m, i));
-        i += 1;
     }
 }
 
@@ -167,21 +128,15 @@ fn reopen_last(m: &mut [u8], o: Owner, counts: &[u32], passed: &[u32])
     requires { MayOpenOne m.old (owner_is o) counts.now passed.now }
     ensures { Becomes m.old m.new (with_opens (flat_of m.old) ((flat_of m.old).opens ++ opened_by (owner_is o) counts.now passed.now)) }
 {
-    match o {
-        Owner::Committed => {}
-        Owner::Tentative {
-            transaction,
-            statement: _,
-        } => {
-            let t = wide(transaction);
-            let written = counts[t];
-            if passed[t] == written {
-                let open = Open {
-                    transaction: transaction,
-                    written: written,
-                };
-                memory_layout::push_open(m, open);
-            }
+    if let Owner::Tentative { transaction, .. } = o {
+        let t = transaction as usize;
+        let written = counts[t];
+        if passed[t] == written {
+            let open = Open {
+                transaction,
+                written,
+            };
+            memory_layout::push_open(m, open);
         }
     }
 }
@@ -191,13 +146,11 @@ fn reopen_rows(m: &mut [u8], counts: &[u32], passed: &mut [u32])
     requires { MayOpenAll m.old counts.now passed.old }
     ensures { Becomes m.old m.new (with_opens (flat_of m.old) ((flat_of m.old).opens ++ map (reopened (own_rows (flat_of m.old))) (transactions (own_rows (flat_of m.old))))) }
 {
-    let n = wide(memory_layout::get_counts(m).rows);
-    let mut i: usize = 0;
-    while i < n {
+    let n = memory_layout::get_counts(m).rows as usize;
+    for i in 0..n {
         let o = memory_rows::owner_at(m, i);
         note(passed, o);
         reopen_last(m, o, counts, passed);
-        i += 1;
     }
 }
 
@@ -219,7 +172,7 @@ fn lay_out(image: &[u8], h: Header, entries: &[u32], m: &mut [u8])
     requires { MayLayOut image.now h entries.now m.old }
     ensures { HoldsNow m.old m.new (recovered_store h (pages_at (view image.now) entries.now)) }
 {
-    let used = wide(h.directories);
+    let used = h.directories as usize;
     let directories = [h.d0, h.d1, h.d2, h.d3];
     memory_layout::fresh(m, h.blocks, h.capacity);
     load_pages(image, entries, m);
@@ -238,26 +191,16 @@ fn lay_out(image: &[u8], h: Header, entries: &[u32], m: &mut [u8])
     memory_layout::put_head(m, head);
 }
 
-// The tests in their order, each with its refusal: 1 image's length, 22 header, 3 memory, 23 directory, 24 pages. All come before the memory is changed.
+// The tests in their order: the image's length, its header, the memory, the directory, the pages. All come before the memory is changed.
 pub fn recover(image: &[u8], m: &mut [u8]) -> Answer
     ensures { Recovered image.now m.old result m.new }
 {
-    match image::test_header(image) {
-        image::HeaderTest::Passed(h) => {
-            if m.len()
-                < memory_layout::ROW_SPACE * wide(h.capacity) + memory_layout::places::HEAD_SIZE
-            {
-                return Answer::Refused(3);
-            }
-            let t = image::test_pages(image, h);
-            if t.refusal != 0 {
-                return Answer::Refused(t.refusal);
-            }
-            let entries = t.entries;
-            let pages = wide(h.pages);
-            lay_out(image, h, &entries[..pages], m);
-            Answer::Done
-        }
-        image::HeaderTest::Refused(n) => Answer::Refused(n),
+    let h = image::test_header(image)?;
+    let space = memory_layout::ROW_SPACE * h.capacity as usize;
+    if m.len() < space + memory_layout::places::HEAD_SIZE {
+        return Err(Refusal::MemoryShort);
     }
+    let entries = image::test_pages(image, h)?;
+    lay_out(image, h, &entries[..h.pages as usize], m);
+    Ok(Reply::Done)
 }

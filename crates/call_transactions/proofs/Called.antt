@@ -6,9 +6,13 @@ use Rattle.model.specs.Transactions.{gives, unless, argument_tests, tuple_tests,
 use Rattle.model.specs.Calls.{with_room}
 use Rattle.memory_layout.specs.Flat.{flat_of}
 use Rattle.memory_layout.specs.Store.{holds_store, store_of, store_in, pages_in, HoldsNow}
-use Rattle.call_contracts.specs.Shape.{Answers}
-use Rattle.call_contracts.specs.declared.Answer.{Answer}
-use Rattle.call_contracts.specs.declared.Answer.TheVariants.{Done, Refused}
+use Rattle.call_contracts.specs.Shape.{Answer, Answers}
+use Rattle.std.specs.Prelude.{Ok, Err}
+use Rattle.refusals.specs.declared.Refusal.{Refusal}
+use Rattle.refusals.specs.declared.Refusal.TheVariants.{LogFull}
+use Rattle.refusals.specs.Numbers.{number}
+use Rattle.refusals.proofs.Numbers.{number_positive}
+use Rattle.call_contracts.specs.declared.Reply.TheVariants.{Done}
 use Rattle.call_contracts.proofs.Answering.{answers_refused, answers_done, no_room_done}
 use Rattle.engine_lookup.specs.Lookup.{Shows}
 use Rattle.engine_lookup.specs.declared.Visibility.{Visibility}
@@ -37,41 +41,41 @@ is_write : (new mark : Bool) (tx t k : ℕ) (bs : List ℕ) (s : Store)
 unfolding write_call write_tests with_tuple wrote
 is_write new mark tx t k bs s = unless_append (argument_tests tx t (length bs) s) (tuple_tests new tx t k s) s _
 
-module _ (new mark : Bool) (tx t k : ℕ) (bs m : List ℕ) (v : ℕ) (ev : v ≡ refusal_in (store_in m) (argument_tests tx t (length bs))) where
+module _ (new mark : Bool) (tx t k : ℕ) (bs m : List ℕ) where
   abbrev S : Store
   S = store_of (flat_of m)
 
   abbrev call : Store → Outcome
   call = write_call new mark tx t k bs
 
-  pub call_refused : (v ≡ 0 → ⊥) → Answers (write_call new mark tx t k bs) m (Refused v) m
-  call_refused nz = answers_stopped m (argument_tests tx t (length bs)) v ev call (wrote new mark tx t k bs) (is_write new mark tx t k bs) nz
+  pub call_refused : (r : Refusal) → number r ≡ refusal_in (store_in m) (argument_tests tx t (length bs)) → Answers (write_call new mark tx t k bs) m (Err r) m
+  call_refused r e = answers_stopped m (argument_tests tx t (length bs)) r e call (wrote new mark tx t k bs) (is_write new mark tx t k bs)
 
-  module _ (z : v ≡ 0) (l : Visibility) (shown : Shows (flat_of m) t tx (versions t k (pages_in (flat_of m))) l) (w : ℕ) (ew : w ≡ first_refusal (found_tests new (flat_of m) l)) where
+  module _ (ev : 0 ≡ refusal_in (store_in m) (argument_tests tx t (length bs))) (l : Visibility) (shown : Shows (flat_of m) t tx (versions t k (pages_in (flat_of m))) l) where
     there : holds_store m ≡ true
-    there = passed_held m (argument_tests tx t (length bs)) v ev z
+    there = passed_held m (argument_tests tx t (length bs)) ev
 
     tests_are : found_tests new (flat_of m) l ≡ tuple_tests new tx t k S
     tests_are = key_tests_are (flat_of m) t tx k l shown new
 
     call_is : call S ≡ unless (tuple_tests new tx t k S) S (gives model.done (after_write tx t k bs mark S))
     unfolding wrote
-    call_is = call_after m (argument_tests tx t (length bs)) v ev call (wrote new mark tx t k bs) (is_write new mark tx t k bs) (call_numbered tx t (length bs)) z
+    call_is = call_after m (argument_tests tx t (length bs)) ev call (wrote new mark tx t k bs) (is_write new mark tx t k bs) (call_numbered tx t (length bs))
 
-    later_is : first_refusal (tuple_tests new tx t k S) ≡ w
-    later_is = sym (ew ∙ ap first_refusal tests_are)
+    pub key_refused : (r : Refusal) → number r ≡ first_refusal (found_tests new (flat_of m) l) → Answers (write_call new mark tx t k bs) m (Err r) m
+    key_refused r e =
+        let later_is : number r ≡ first_refusal (tuple_tests new tx t k S) = e ∙ ap first_refusal tests_are in
+        answers_refused call m r there
+        (call_is ∙ unless_stop (tuple_tests new tx t k S) S _ (λ q. omega (arith, later_is, q, number_positive r)) ∙ ap (λ (j : ℕ). gives (model.refused j) S) (sym later_is))
 
-    pub key_refused : (w ≡ 0 → ⊥) → Answers (write_call new mark tx t k bs) m (Refused w) m
-    key_refused nz =
-        answers_refused call m w there
-        (call_is ∙ unless_stop (tuple_tests new tx t k S) S _ (λ q. nz (sym later_is ∙ q)) ∙ ap (λ (j : ℕ). gives (model.refused j) S) later_is)
+    module _ (ew : 0 ≡ first_refusal (found_tests new (flat_of m) l)) where
+      written_is : call S ≡ gives model.done (after_write tx t k bs mark S)
+      written_is = call_is ∙ unless_pass (tuple_tests new tx t k S) S _ (later_numbered new tx t k S) (sym (ew ∙ ap first_refusal tests_are))
 
-    -- but there is no room for the record
-    pub write_29 : (room : Bool) → room ≡ false → w ≡ 0 → Answers (with_room room (write_call new mark tx t k bs)) m (Refused 29) m
-    unfolding with_tuple
-    write_29 room h e =
-        no_room_done room call m h there _ (call_is ∙ unless_pass (tuple_tests new tx t k S) S _ (later_numbered new tx t k S) (later_is ∙ e))
+      -- but there is no room for the record
+      pub write_29 : (room : Bool) → room ≡ false → Answers (with_room room (write_call new mark tx t k bs)) m (Err LogFull) m
+      unfolding with_tuple
+      write_29 room h = no_room_done room call m h there _ written_is
 
-    pub write_done : w ≡ 0 → (m' : List ℕ) → HoldsNow m m' (after_write tx t k bs mark (store_of (flat_of m))) → Answers (write_call new mark tx t k bs) m Done m'
-    write_done e m' p =
-        answers_done call m m' (after_write tx t k bs mark S) there (call_is ∙ unless_pass (tuple_tests new tx t k S) S _ (later_numbered new tx t k S) (later_is ∙ e)) p
+      pub write_done : (m' : List ℕ) → HoldsNow m m' (after_write tx t k bs mark (store_of (flat_of m))) → Answers (write_call new mark tx t k bs) m (Ok Done) m'
+      write_done m' p = answers_done call m m' (after_write tx t k bs mark S) there written_is p

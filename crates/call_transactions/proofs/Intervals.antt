@@ -5,14 +5,14 @@ use Rattle.model.specs.Transactions.{gives, unless, replied, not_open, no_table}
 use Rattle.model.specs.Crossing.{crossing_keys, no_interval, key_bytes, keys_reply, crossing_call}
 use Rattle.memory_bytes.specs.Bytes.{bytes}
 use Rattle.memory_layout.specs.Flat.{Flat, flat_of}
-use Rattle.memory_layout.specs.Store.{holds_store, store_of, pages_in}
+use Rattle.memory_layout.specs.Store.{holds_store, store_of, store_in, pages_in}
 use Rattle.memory_layout.proofs.Laws.{in_some}
-use Rattle.call_contracts.specs.Shape.{Replies, RepliesAt}
-use Rattle.call_contracts.specs.declared.Answer.{Answer}
+use Rattle.call_contracts.specs.Shape.{Answer, Replies, RepliesAt}
 use Rattle.basics.proofs.Tabs.{tab_part}
 use Rattle.engine_crossing.specs.Crossing.{KeysFound}
 use Rattle.engine_crossing.proofs.Progress.{length_keys}
-use Rattle.call_transactions.proofs.Refusing.{refused_here, passed_on, unless_none, unless_append}
+use Rattle.call_transactions.specs.Refusals.{refusal_in}
+use Rattle.call_transactions.proofs.Refusing.{refused_here, passed_on, unless_none, unless_append, call_after, open_numbered}
 use Rattle.model.specs.State as model
 
 -- the keys that are found
@@ -26,6 +26,12 @@ cross_after tx t first end room s = unless (no_table t ∷ no_interval first end
 pub cross_tests : (tx t first end room : ℕ) (s : Store) → crossing_call tx t first end room s ≡ unless (not_open tx s) s (cross_after tx t first end room s)
 unfolding crossing_call
 cross_tests tx t first end room s = unless_append (not_open tx s) _ s _
+
+-- the transaction is open
+pub cross_opened : (tx t first end room : ℕ) (m : List ℕ) → 0 ≡ refusal_in (store_in m) (not_open tx)
+    → crossing_call tx t first end room (store_of (flat_of m)) ≡ cross_after tx t first end room (store_of (flat_of m))
+cross_opened tx t first end room m e =
+    call_after m (not_open tx) e (crossing_call tx t first end room) (cross_after tx t first end room) (cross_tests tx t first end room) (open_numbered tx)
 
 module _ (tx t first end room : ℕ) (s : Store) where
   pub cross_10 : 7 < t → cross_after tx t first end room s ≡ gives (model.refused 10) s

@@ -14,15 +14,19 @@ use Rattle.basics.proofs.Elements.{and_no, or_right}
 use Rattle.memory_layout.specs.Store.{FreshFits, HoldsNow}
 use Rattle.basics.proofs.Tabs.{lt_or_ge}
 use Rattle.call_contracts.specs.Shape.{MadeBy, Made}
-use Rattle.call_contracts.specs.declared.Answer.TheVariants.{Done, Refused}
+use Rattle.std.specs.Prelude.{Ok, Err}
+use Rattle.refusals.specs.declared.Refusal.{Refusal}
+use Rattle.refusals.specs.Numbers.{number}
+use Rattle.refusals.proofs.Numbers.{number_positive}
+use Rattle.call_contracts.specs.declared.Reply.TheVariants.{Done}
 
 module _ (n : ℕ) (img m : List ℕ) where
-  pub made_refused : (k : ℕ) → make (length img) (length m) n ≡ refuses k → Made n img m (Refused k) img m
+  pub made_refused : (r : Refusal) → make (length img) (length m) n ≡ refuses (number r) → Made n img m (Err r) img m
   unfolding MadeBy
-  made_refused k e = rw e (refl, (refl, refl))
+  made_refused r e = rw e (refl, (refl, refl))
 
   pub made_done : (s : Store) (img' m' : List ℕ) → make (length img) (length m) n ≡ holds s → img' ≡ made_image img n → HoldsNow m m' s
-      → Made n img m Done img' m'
+      → Made n img m (Ok Done) img' m'
   unfolding MadeBy
   made_done s img' m' e q k = rw e (refl, (q, k))
 
@@ -77,10 +81,10 @@ pub record Fits (len mem n : ℕ) : Type 0 where
 pub make_accepts : {len mem n : ℕ} → Fits len mem n → make len mem n ≡ holds (fresh_store (len / block_size) n)
 make_accepts f = let r = f.room in make_done _ _ _ f.whole r.few r.many r.least r.most r.long
 
-stage_refuses : (g : Stage Store) (v : ℕ) → v ≡ refusal_of g → (v ≡ 0 → ⊥) → g ≡ refuses v
+stage_refuses : (g : Stage Store) (r : Refusal) → number r ≡ refusal_of g → g ≡ refuses (number r)
 unfolding refusal_of
-stage_refuses (refuses k) v e nz = ap refuses (sym e)
-stage_refuses (holds s) v e nz = absurd (nz e)
+stage_refuses (refuses k) r e = ap refuses (sym e)
+stage_refuses (holds s) r e = absurd (omega (arith, e, number_positive r))
 
 module _ (len mem n : ℕ) where
   pub refusal_given : {k : ℕ} → make len mem n ≡ refuses k → k ≡ refusal_of (make len mem n)
@@ -91,20 +95,19 @@ module _ (len mem n : ℕ) where
   unfolding refusal_of
   refusal_zero f = sym (ap refusal_of (make_accepts f))
 
-  module _ (v : ℕ) (ev : v ≡ refusal_of (make len mem n)) where
-    pub make_refused : (v ≡ 0 → ⊥) → make len mem n ≡ refuses v
-    make_refused nz = stage_refuses (make len mem n) v ev nz
+  pub make_refused : (r : Refusal) → number r ≡ refusal_of (make len mem n) → make len mem n ≡ refuses (number r)
+  make_refused r e = stage_refuses (make len mem n) r e
 
-    pub make_fits : v ≡ 0 → Fits len mem n
-    make_fits z =
-        let not-by : (k : ℕ) → 0 < k → make len mem n ≡ refuses k → ⊥ = λ k p e. omega (arith, ev, refusal_given e) in
-        let whole : len % block_size ≡ 0 = by (eqb (len % block_size) 0) (λ t. eqb-true _ _ t) (λ t. absurd (not-by 1 (omega arith) (make_odd len mem n (eqb-false _ _ t)))) in
-        let few : 2 ≤ len / block_size = ⊎_elim (λ h. absurd (not-by 1 (omega arith) (make_few len mem n h))) (λ h. h) (lt_or_ge (len / block_size) 2) in
-        let many : len / block_size ≤ block_limit = ⊎_elim (λ h. absurd (not-by 1 (omega arith) (make_many len mem n h))) (λ h. h) (lt_or_ge block_limit (len / block_size)) in
-        let least : 1 ≤ n = ⊎_elim (λ h. absurd (not-by 2 (omega arith) (make_none len mem n whole few many h))) (λ h. h) (lt_or_ge n 1) in
-        let most : n ≤ capacity_limit = ⊎_elim (λ h. absurd (not-by 2 (omega arith) (make_large len mem n whole few many h))) (λ h. h) (lt_or_ge capacity_limit n) in
-        let long : memory_for n ≤ mem = ⊎_elim (λ h. absurd (not-by 3 (omega arith) (make_short len mem n whole few many least most h))) (λ h. h) (lt_or_ge mem (memory_for n)) in
-        record { whole = whole; room = record { least = least; most = most; long = long; few = few; many = many } }
+  pub make_fits : 0 ≡ refusal_of (make len mem n) → Fits len mem n
+  make_fits ev =
+      let not-by : (k : ℕ) → 0 < k → make len mem n ≡ refuses k → ⊥ = λ k p e. omega (arith, ev, refusal_given e) in
+      let whole : len % block_size ≡ 0 = by (eqb (len % block_size) 0) (λ t. eqb-true _ _ t) (λ t. absurd (not-by 1 (omega arith) (make_odd len mem n (eqb-false _ _ t)))) in
+      let few : 2 ≤ len / block_size = ⊎_elim (λ h. absurd (not-by 1 (omega arith) (make_few len mem n h))) (λ h. h) (lt_or_ge (len / block_size) 2) in
+      let many : len / block_size ≤ block_limit = ⊎_elim (λ h. absurd (not-by 1 (omega arith) (make_many len mem n h))) (λ h. h) (lt_or_ge block_limit (len / block_size)) in
+      let least : 1 ≤ n = ⊎_elim (λ h. absurd (not-by 2 (omega arith) (make_none len mem n whole few many h))) (λ h. h) (lt_or_ge n 1) in
+      let most : n ≤ capacity_limit = ⊎_elim (λ h. absurd (not-by 2 (omega arith) (make_large len mem n whole few many h))) (λ h. h) (lt_or_ge capacity_limit n) in
+      let long : memory_for n ≤ mem = ⊎_elim (λ h. absurd (not-by 3 (omega arith) (make_short len mem n whole few many least most h))) (λ h. h) (lt_or_ge mem (memory_for n)) in
+      record { whole = whole; room = record { least = least; most = most; long = long; few = few; many = many } }
 
 -- ---- block 0
 

@@ -11,6 +11,9 @@ use Rattle.basics.proofs.Parts.{remove_at_suc}
 use Rattle.basics.proofs.Firsts.{index_hit, index_pass}
 use Rattle.memory_layout.specs.Flat.{no_open}
 use Rattle.memory_layout.specs.Opens.{find_open}
+use Rattle.std.specs.Prelude.{Option, Some, None, is_some}
+use Rattle.basics.proofs.Facts.{lie}
+use Rattle.call_transactions.specs.Calls.{OpenedAt}
 
 -- ---- one entry
 
@@ -112,3 +115,13 @@ without_none tx (o ∷ os) h =
     by (is_for tx o)
     (λ e. absurd (omega (arith, find_here tx o os e)))
     (λ e. without_on tx o os e ∙ ap (λ (z : List Active). o ∷ z) (without_none tx os (omega (arith, find_on tx o os e))))
+
+-- ---- the place of the first entry, if there is one
+
+pub opened_none : (tx : ℕ) (os : List Active) (r : Option ℕ) → OpenedAt tx os r → is_some r ≡ false → length os ≤ find_open tx os
+opened_none tx os (Some i) o e = lie (sym e)
+opened_none tx os None o e = o
+
+pub opened_some : (tx : ℕ) (os : List Active) (r : Option ℕ) → OpenedAt tx os r → is_some r ≡ true → find_open tx os < length os
+opened_some tx os (Some i) o e = omega (arith, o.0, o.1)
+opened_some tx os None o e = lie e

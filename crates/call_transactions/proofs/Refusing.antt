@@ -10,10 +10,13 @@ use Rattle.memory_layout.specs.Store.{holds_store, store_of, store_in}
 use Rattle.memory_layout.proofs.Laws.{in_none, in_some}
 use Rattle.memory_layout.specs.Opens.{find_open}
 use Rattle.call_transactions.proofs.Opens.{found_open, not_found_open}
-use Rattle.call_contracts.specs.Shape.{Answers, Replies}
+use Rattle.call_contracts.specs.Shape.{Answers, AnswersAt, Replies, RepliesAt}
 use Rattle.call_transactions.specs.Refusals.{first_refusal, refusal_in}
-use Rattle.call_contracts.specs.declared.Answer.TheVariants.{Refused}
-use Rattle.call_contracts.proofs.Answering.{passed_4, answers_4, answers_refused, replies_4, replies_refused}
+use Rattle.refusals.specs.declared.Refusal.{Refusal}
+use Rattle.refusals.specs.Numbers.{number}
+use Rattle.refusals.proofs.Numbers.{number_positive}
+use Rattle.std.specs.Prelude.{Err}
+use Rattle.call_contracts.proofs.Answering.{passed_4, answers_refused, replies_refused}
 use Rattle.model.specs.State as model
 
 -- ---- one test after the other
@@ -85,34 +88,36 @@ module _ (m : List ℕ) (tests : Store → List Test) where
   unfolding refusal_in
   refusal_in_lem h = rw (in_some m h)
 
-  module _ (v : ℕ) (e : v ≡ refusal_in (store_in m) tests) where
-    pub passed_held : v ≡ 0 → holds_store m ≡ true
-    passed_held z = passed_4 m (λ h. e ∙ refusal_4 h) z
+  -- none of them holds
+  module _ (e : 0 ≡ refusal_in (store_in m) tests) where
+    pub passed_held : holds_store m ≡ true
+    passed_held = passed_4 m (λ h. e ∙ refusal_4 h) refl
 
-    pub passed_tests : v ≡ 0 → first_refusal (tests (store_of (flat_of m))) ≡ 0
-    passed_tests z = sym (refusal_in_lem (passed_held z)) ∙ sym e ∙ z
+    pub passed_tests : first_refusal (tests (store_of (flat_of m))) ≡ 0
+    passed_tests = sym (refusal_in_lem passed_held) ∙ sym e
 
     -- a call with these tests first does what comes after them
-    pub call_after : (call after : Store → Outcome) → ((s : Store) → call s ≡ unless (tests s) s (after s)) → ((s : Store) → Numbered (tests s)) → v ≡ 0
+    pub call_after : (call after : Store → Outcome) → ((s : Store) → call s ≡ unless (tests s) s (after s)) → ((s : Store) → Numbered (tests s))
         → call (store_of (flat_of m)) ≡ after (store_of (flat_of m))
-    call_after call after q a z = q (store_of (flat_of m)) ∙ unless_pass (tests (store_of (flat_of m))) (store_of (flat_of m)) _ (a (store_of (flat_of m))) (passed_tests z)
+    call_after call after q a = q (store_of (flat_of m)) ∙ unless_pass (tests (store_of (flat_of m))) (store_of (flat_of m)) _ (a (store_of (flat_of m))) passed_tests
 
-    module _ (call after : Store → Outcome) (q : (s : Store) → call s ≡ unless (tests s) s (after s)) (nz : v ≡ 0 → ⊥) where
-      refused_call : holds_store m ≡ true → call (store_of (flat_of m)) ≡ gives (model.refused v) (store_of (flat_of m))
-      refused_call h =
-          let s : Store = store_of (flat_of m) in
-          let ev : v ≡ first_refusal (tests s) = e ∙ refusal_in_lem h in
-          q s ∙ unless_stop (tests s) s (after s) (λ z. nz (ev ∙ z)) ∙ ap (λ (k : ℕ). gives (model.refused k) s) (sym ev)
+  -- one of them refuses
+  module _ (r : Refusal) (e : number r ≡ refusal_in (store_in m) tests) (call after : Store → Outcome) (q : (s : Store) → call s ≡ unless (tests s) s (after s)) where
+    refused_call : holds_store m ≡ true → call (store_of (flat_of m)) ≡ gives (model.refused (number r)) (store_of (flat_of m))
+    refused_call h =
+        let s : Store = store_of (flat_of m) in
+        let ev : number r ≡ first_refusal (tests s) = e ∙ refusal_in_lem h in
+        q s ∙ unless_stop (tests s) s (after s) (λ z. omega (arith, ev, z, number_positive r)) ∙ ap (λ (k : ℕ). gives (model.refused k) s) (sym ev)
 
-      pub answers_stopped : Answers call m (Refused v) m
-      answers_stopped =
-          by (holds_store m) (λ h. answers_refused call m v h (refused_call h))
-          (λ h. rw (e ∙ refusal_4 h) (answers_4 call m h))
+    pub answers_stopped : Answers call m (Err r) m
+    unfolding Answers AnswersAt
+    answers_stopped =
+        by (holds_store m) (λ h. answers_refused call m r h (refused_call h)) (λ h. rw (in_none m h) (ap model.refused (e ∙ refusal_4 h), refl))
 
-      pub replies_stopped : (p : List ℕ) → Replies call m (Refused v) p p
-      replies_stopped p =
-          by (holds_store m) (λ h. replies_refused call m p v h (refused_call h))
-          (λ h. rw (e ∙ refusal_4 h) (replies_4 call m p h))
+    pub replies_stopped : (p : List ℕ) → Replies call m (Err r) p p
+    unfolding Replies RepliesAt
+    replies_stopped p =
+        by (holds_store m) (λ h. replies_refused call m p r h (refused_call h)) (λ h. rw (in_none m h) (ap model.refused (e ∙ refusal_4 h), refl))
 
 -- ---- 6, 7
 

@@ -17,11 +17,13 @@ use Rattle.memory_layout.proofs.Runs.{held_count}
 use Rattle.memory_pages.specs.Spots.{place_in}
 use Rattle.engine_lookup.specs.Lookup.{Shows, seen_at, picked}
 use Rattle.engine_lookup.specs.declared.Visibility.{Visibility}
-use Rattle.engine_lookup.specs.declared.Seen.{Seen}
-use Rattle.engine_lookup.specs.declared.Seen.TheVariants.{At, Nothing}
+use Rattle.std.specs.Prelude.{Option as Found, Some, None, is_some as is_found}
 use Rattle.engine_lookup.proofs.Picking.{visibility_sees}
-use Rattle.call_transactions.specs.Refusals.{first_refusal, refusal_in, known, found_tests}
+use Rattle.call_transactions.specs.Refusals.{first_refusal, refusal_in, found_tests}
 use Rattle.call_transactions.specs.Calls.{AcceptAt}
+use Rattle.refusals.specs.declared.Refusal.{Refusal}
+use Rattle.refusals.specs.Numbers.{number}
+use Rattle.refusals.proofs.Numbers.{number_positive}
 use Rattle.call_transactions.proofs.Opens.{not_found_open}
 use Rattle.call_transactions.proofs.Refusing.{Numbered, stop_here, go_on, refusal_none, refusal_append, refusal_first, refusal_4, refusal_in_lem, passed_held, passed_tests, open_numbered}
 
@@ -35,22 +37,23 @@ tests_are : (tx t n : ℕ) (s : Store) → argument_tests tx t n s ≡ not_open 
 unfolding argument_tests
 tests_are tx t n s = refl
 
-module _ (tx t n : ℕ) (m : List ℕ) (v : ℕ) (ev : v ≡ refusal_in (store_in m) (not_open tx)) where
+module _ (tx t n : ℕ) (m : List ℕ) where
   abbrev S : Store
   S = store_of (flat_of m)
 
-  pub call_stopped : (v ≡ 0 → ⊥) → v ≡ refusal_in (store_in m) (argument_tests tx t n)
-  call_stopped nz =
+  pub call_stopped : (r : Refusal) → number r ≡ refusal_in (store_in m) (not_open tx) → number r ≡ refusal_in (store_in m) (argument_tests tx t n)
+  call_stopped r ev =
       by (holds_store m)
-      (λ h. let e1 : v ≡ first_refusal (not_open tx S) = ev ∙ refusal_in_lem m (not_open tx) h in
-      e1 ∙ sym (refusal_in_lem m (argument_tests tx t n) h ∙ ap first_refusal (tests_are tx t n S) ∙ refusal_first (not_open tx S) (own_tests t n) (λ z. nz (e1 ∙ z))))
+      (λ h. let e1 : number r ≡ first_refusal (not_open tx S) = ev ∙ refusal_in_lem m (not_open tx) h in
+      e1 ∙ sym (refusal_in_lem m (argument_tests tx t n) h ∙ ap first_refusal (tests_are tx t n S)
+      ∙ refusal_first (not_open tx S) (own_tests t n) (λ z. omega (arith, e1, z, number_positive r))))
       (λ h. ev ∙ refusal_4 m (not_open tx) h ∙ sym (refusal_4 m (argument_tests tx t n) h))
 
-  module _ (z : v ≡ 0) where
+  module _ (ev : 0 ≡ refusal_in (store_in m) (not_open tx)) where
     rest_is : refusal_in (store_in m) (argument_tests tx t n) ≡ first_refusal (own_tests t n)
     rest_is =
-        refusal_in_lem m (argument_tests tx t n) (passed_held m (not_open tx) v ev z) ∙ ap first_refusal (tests_are tx t n S)
-        ∙ refusal_append (not_open tx S) (own_tests t n) (passed_tests m (not_open tx) v ev z) (open_numbered tx S)
+        refusal_in_lem m (argument_tests tx t n) (passed_held m (not_open tx) ev) ∙ ap first_refusal (tests_are tx t n S)
+        ∙ refusal_append (not_open tx S) (own_tests t n) (passed_tests m (not_open tx) ev) (open_numbered tx S)
 
     pub call_10 : 7 < t → 10 ≡ refusal_in (store_in m) (argument_tests tx t n)
     unfolding no_table
@@ -109,33 +112,33 @@ module _ (f : Flat) (l : Visibility) where
   key_12 new e = sym (stop_here 12 _ _ e)
 
   -- behind 12, by the version that is seen
-  module _ (e12 : l.foreign ≡ false) {r : Seen} (er : r ≡ picked f l) where
-    by_sight : (new : Bool) → first_refusal (found_tests new f l) ≡ first_refusal (key_test new (known r) ∷ full (store_of f))
+  module _ (e12 : l.foreign ≡ false) {r : Found ℕ} (er : r ≡ picked f l) where
+    by_sight : (new : Bool) → first_refusal (found_tests new f l) ≡ first_refusal (key_test new (is_found r) ∷ full (store_of f))
     unfolding found_tests key_tests
-    by_sight new = go_on 12 _ _ e12 ∙ ap (λ (z : Seen). first_refusal (key_test new (known z) ∷ full (store_of f))) (sym er)
+    by_sight new = go_on 12 _ _ e12 ∙ ap (λ (z : Found ℕ). first_refusal (key_test new (is_found z) ∷ full (store_of f))) (sym er)
 
-    pub key_13 : {i : ℕ} → r ≡ At i → (new : Bool) → new ≡ true → 13 ≡ first_refusal (found_tests new f l)
-    unfolding key_test known
-    key_13 q true en = sym (by_sight true ∙ stop_here 13 (known r) _ (ap known q))
+    pub key_13 : {i : ℕ} → r ≡ Some i → (new : Bool) → new ≡ true → 13 ≡ first_refusal (found_tests new f l)
+    unfolding key_test
+    key_13 q true en = sym (by_sight true ∙ stop_here 13 (is_found r) _ (ap is_found q))
     key_13 q false en = lie en
 
-    pub key_14 : r ≡ Nothing → (new : Bool) → not new ≡ true → 14 ≡ first_refusal (found_tests new f l)
-    unfolding key_test known
+    pub key_14 : r ≡ None → (new : Bool) → not new ≡ true → 14 ≡ first_refusal (found_tests new f l)
+    unfolding key_test
     key_14 q true en = lie en
-    key_14 q false en = sym (by_sight false ∙ stop_here 14 (not (known r)) _ (ap (λ (z : Seen). not (known z)) q))
+    key_14 q false en = sym (by_sight false ∙ stop_here 14 (not (is_found r)) _ (ap (λ (z : Found ℕ). not (is_found z)) q))
 
     -- the key is not seen and is to be new, or is seen and is not to be
-    pub key_passed : (new : Bool) → known r ≡ not new → first_refusal (full (store_of f)) ≡ first_refusal (found_tests new f l)
+    pub key_passed : (new : Bool) → is_found r ≡ not new → first_refusal (full (store_of f)) ≡ first_refusal (found_tests new f l)
     unfolding key_test
-    key_passed true q = sym (by_sight true ∙ go_on 13 (known r) _ q)
-    key_passed false q = sym (by_sight false ∙ go_on 14 (not (known r)) _ (ap not q))
+    key_passed true q = sym (by_sight true ∙ go_on 13 (is_found r) _ q)
+    key_passed false q = sym (by_sight false ∙ go_on 14 (not (is_found r)) _ (ap not q))
 
 -- ---- by the model's words
 
-known_is : (f : Flat) (t : ℕ) (r : Seen) → known r ≡ is_some (seen_at f t r)
-unfolding known seen_at is_some
-known_is f t (At i) = refl
-known_is f t Nothing = refl
+known_is : (f : Flat) (t : ℕ) (r : Found ℕ) → is_found r ≡ is_some (seen_at f t r)
+unfolding seen_at is_some
+known_is f t (Some i) = refl
+known_is f t None = refl
 
 module _ (f : Flat) (t tx k : ℕ) (l : Visibility) (shown : Shows f t tx (versions t k (pages_in f)) l) where
   pub key_tests_are : (new : Bool) → found_tests new f l ≡ tuple_tests new tx t k (store_of f)
@@ -176,16 +179,16 @@ pub record Called (m : List ℕ) (tx t n : ℕ) : Type 0 where
   pub table : t < 8
   pub short : n ≤ payload_limit
 
-pub called : {tx t n : ℕ} {m : List ℕ} {v : ℕ} → v ≡ refusal_in (store_in m) (argument_tests tx t n) → v ≡ 0 → Called m tx t n
+pub called : {tx t n : ℕ} {m : List ℕ} → 0 ≡ refusal_in (store_in m) (argument_tests tx t n) → Called m tx t n
 unfolding argument_tests not_open no_table too_long
-called {tx} {t} {n} {m} {v} ev z =
+called {tx} {t} {n} {m} ev =
     let s : Store = store_of (flat_of m) in
-    let p6 = pass_one 6 (ltb most_transaction tx) _ (omega arith) (passed_tests m (argument_tests tx t n) v ev z) in
+    let p6 = pass_one 6 (ltb most_transaction tx) _ (omega arith) (passed_tests m (argument_tests tx t n) ev) in
     let p7 = pass_one 7 (not (is_in tx (open_numbers s.active))) _ (omega arith) p6.1 in
     let p10 = pass_one 10 (ltb 7 t) _ (omega arith) p7.1 in
     let p11 = pass_one 11 (ltb payload_limit n) _ (omega arith) p10.1 in
     record {
-      there = passed_held m (argument_tests tx t n) v ev z;
+      there = passed_held m (argument_tests tx t n) ev;
       opened = is_open tx (flat_of m) p7.0;
       transaction = ltb-false most_transaction tx p6.0;
       table = omega (arith, ltb-false 7 t p10.0);
@@ -193,13 +196,13 @@ called {tx} {t} {n} {m} {v} ev z =
     }
 
 -- and the others
-pub accepts : {m : List ℕ} {tx t at k : ℕ} {bs : List ℕ} (new : Bool) (l : Visibility) → Called m tx t (length bs) → first_refusal (found_tests new (flat_of m) l) ≡ 0
+pub accepts : {m : List ℕ} {tx t at k : ℕ} {bs : List ℕ} (new : Bool) (l : Visibility) → Called m tx t (length bs) → 0 ≡ first_refusal (found_tests new (flat_of m) l)
     → at ≡ place_in (flat_of m) t k → AcceptAt m tx t at k bs
 unfolding full
 accepts {m} new l c e p =
     let s : Store = store_of (flat_of m) in
     let there : holds_store m ≡ true = c.there in
-    let p15 = pass_one 15 (leb s.capacity (length (held s.pages))) _ (omega arith) (pass_key new (flat_of m) l e) in
+    let p15 = pass_one 15 (leb s.capacity (length (held s.pages))) _ (omega arith) (pass_key new (flat_of m) l (sym e)) in
     let p16 = pass_one 16 (eqb s.next 4294967295) [] (omega arith) p15.1 in
     record {
       has_store = there;

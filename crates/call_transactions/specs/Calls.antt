@@ -1,5 +1,5 @@
 -- What the functions below a write need and leave; commit and abort as one call.
-use Rattle.std.specs.Prelude.{◌≡◌, Bool, true, false, List, ℕ, ◌+◌, ◌≤◌, ◌<◌, length, get_or, set}
+use Rattle.std.specs.Prelude.{◌≡◌, Bool, true, false, List, ℕ, ◌+◌, ◌≤◌, ◌<◌, length, get_or, set, Option, Some, None}
 use Rattle.block_forms.specs.Limits.{payload_limit, most_transaction}
 use Rattle.block_forms.specs.Tuple.{tentative}
 use Rattle.model.specs.State.{Active, Store, Outcome}
@@ -56,3 +56,8 @@ pub record AcceptAt (m : List ℕ) (tx t at k : ℕ) (bs : List ℕ) : Type 0 wh
 abbrev pub end_call : Bool → ℕ → Store → Outcome
 end_call true = commit_call
 end_call false = abort_call
+
+-- the place of the transaction's first entry among the open ones, if it is open
+abbrev pub OpenedAt : ℕ → List Active → Option ℕ → Type 0
+OpenedAt tx os (Some i) = (i ≡ find_open tx os) × (i < length os)
+OpenedAt tx os None = length os ≤ find_open tx os

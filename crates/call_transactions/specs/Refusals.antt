@@ -1,5 +1,5 @@
 -- The tests of a call, as the number of the first that holds.
-use Rattle.std.specs.Prelude.{Bool, true, false, List, [], ◌∷◌, ℕ}
+use Rattle.std.specs.Prelude.{Bool, List, [], ◌∷◌, ℕ, is_some}
 use Rattle.std.proofs.Math.Option.{Option, none, some}
 use Rattle.basics.specs.Basics.{if'◌then◌else◌}
 use Rattle.model.specs.State.{Store}
@@ -8,8 +8,6 @@ use Rattle.memory_layout.specs.Flat.{Flat}
 use Rattle.memory_layout.specs.Store.{store_of}
 use Rattle.engine_lookup.specs.Lookup.{picked}
 use Rattle.engine_lookup.specs.declared.Visibility.{Visibility}
-use Rattle.engine_lookup.specs.declared.Seen.{Seen}
-use Rattle.engine_lookup.specs.declared.Seen.TheVariants.{At, Nothing}
 
 -- the number of the first test that holds, 0 if none does
 unfoldable pub first_refusal : List Test → ℕ
@@ -21,11 +19,6 @@ unfoldable pub refusal_in : Option Store → (Store → List Test) → ℕ
 refusal_in none tests = 4
 refusal_in (some s) tests = first_refusal (tests s)
 
--- a version of the key is seen
-unfoldable pub known : Seen → Bool
-known (At i) = true
-known Nothing = false
-
 -- the model's tests of a write by what the search has found of its key
 unfoldable pub found_tests : Bool → Flat → Visibility → List Test
-found_tests new f l = key_tests new l.foreign (known (picked f l)) (store_of f)
+found_tests new f l = key_tests new l.foreign (is_some (picked f l)) (store_of f)

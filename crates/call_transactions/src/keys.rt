@@ -4,7 +4,8 @@ ghost use Rattle.model.specs.Crossing.{keys_reply};
 ghost use Rattle.call_contracts.specs.Shape.{Replies};
 ghost use Rattle.engine_crossing.specs.Crossing.{KeysAsked, RoomForKeys};
 
-use call_contracts::Answer;
+use call_contracts::{Answer, Reply};
+use refusals::Refusal;
 
 // The bytes of as many keys as a store holds tuples.
 const KEYS_SIZE: usize = 4 * memory_layout::CAPACITY_LIMIT as usize;
@@ -24,10 +25,10 @@ fn reply_keys(
 {
     let n = engine_crossing::find_crossing(m, table, transaction, first, end, keys);
     if reply.len() < 4 * n {
-        return Answer::Refused(21);
+        return Err(Refusal::ReplyShort);
     }
     memory_bytes::copy_out(keys, 0, 4 * n, reply);
-    Answer::Filled(n)
+    Ok(Reply::Filled(n))
 }
 
 // The same, with a buffer for the keys.

@@ -3,13 +3,13 @@
 #![tactic(auto)]
 
 use block_forms::{Header, Owner};
-use call_contracts::Answer;
-use engine_lookup::Seen;
+use call_contracts::{Answer, Reply};
 use memory_layout::Open;
 use memory_rows::{Pending, Row};
+use refusals::Refusal;
 
+mod checks;
 mod keys;
-mod refusals;
 
 ghost use Rattle.std.specs.Prelude.{◌≡◌, true, length};
 ghost use Rattle.model.specs.Transactions.{not_open, one_more, after_write, write_call, without, open_call, insert_call, replace_call, delete_call, commit_call, abort_call, read_call, list_call};
@@ -20,12 +20,13 @@ ghost use Rattle.memory_layout.specs.Flat.{flat_of, Room, Becomes, with_opens};
 ghost use Rattle.memory_layout.specs.Store.{store_in, store_of, HoldsNow};
 ghost use Rattle.memory_layout.specs.Opens.{active_of, OpenFits};
 ghost use Rattle.call_contracts.specs.Shape.{Answers, Replies, Made};
+ghost use Rattle.refusals.specs.Numbers.{number_in};
 ghost use Rattle.call_transactions.specs.Refusals.{refusal_in};
 ghost use Rattle.image.specs.Stages.{refusal_of};
-ghost use Rattle.call_transactions.specs.Calls.{WriterAt, NextRow, after_count, AcceptAt, end_call};
+ghost use Rattle.call_transactions.specs.Calls.{WriterAt, NextRow, after_count, AcceptAt, end_call, OpenedAt};
 
+use checks::{check_call, check_key};
 use keys::reply_crossing;
-use refusals::{call_refusal, key_refusal};
 
 const BLOCK_SIZE: usize = block_forms::BLOCK_SIZE;
 
@@ -48,31 +49,22 @@ const LAST_NUMBER: u32 = 4294967295;
 
 // ---- make
 
-// 1 image, of len bytes, not 2 to 4,096 whole blocks; 2 capacity not 1 to 1,024; 3 memory, of room bytes, too short; else 0.
-fn make_refusal(len: usize, room: usize, capacity: u64) -> u64
-    ensures { result ≡ refusal_of (make len room capacity) }
+// 1 image, of len bytes, not 2 to 4,096 whole blocks; 2 capacity not 1 to 1,024; 3 memory, of room bytes, too short.
+fn check_make(len: usize, room: usize, capacity: u64) -> Result<(), Refusal>
+    ensures { number_in result ≡ refusal_of (make len room capacity) }
 {
     let blocks = len / BLOCK_SIZE;
-    if len % BLOCK_SIZE != 0 {
-        return 1;
+    if len % BLOCK_SIZE != 0 || blocks < 2 || BLOCK_LIMIT < blocks {
+        return Err(Refusal::ImageLength);
     }
-    if blocks < 2 {
-        return 1;
-    }
-    if BLOCK_LIMIT < blocks {
-        return 1;
-    }
-    if capacity < 1 {
-        return 2;
-    }
-    if CAPACITY_LIMIT < capacity {
-        return 2;
+    if capacity < 1 || CAPACITY_LIMIT < capacity {
+        return Err(Refusal::CapacityRange);
     }
     let n = capacity as usize;
     if room < memory_layout::ROW_SPACE * n + memory_layout::places::HEAD_SIZE {
-        return 3;
+        return Err(Refusal::MemoryShort);
     }
-    0
+    Ok(())
 }
 
 // Writes block 0 of the image, and lays an empty store out in the memory.
@@ -80,10 +72,7 @@ pub fn make(image: &mut [u8], m: &mut [u8], capacity: u64) -> Answer
     ensures { Made capacity image.old m.old result image.new m.new }
 {
     let len = image.len();
-    let v = make_refusal(len, m.len(), capacity);
-    if v != 0 {
-        return Answer::Refused(v);
-    }
+    check_make(len, m.len(), capacity)?;
     let b = (len / BLOCK_SIZE) as u32;
     let c = capacity as u32;
     let h = Header {
@@ -100,25 +89,38 @@ pub fn make(image: &mut [u8], m: &mut [u8], capacity: u64) -> Answer
     };
     block_forms::write_header(&mut image[0..BLOCK_SIZE], h);
     memory_layout::fresh(m, b, c);
-    Answer::Done
+    Ok(Reply::Done)
 }
 
 // ---- open
 
-// 4; 6 transaction above 4,095; 7 not open; 0 if it is open.
-fn not_open(m: &[u8], transaction: u64) -> u64
-    ensures { result ≡ refusal_in (store_in m.now) (not_open transaction) }
+// The place of the transaction's first entry among the open ones, if it is open.
+fn opened_at(m: &[u8], transaction: u64) -> Option<usize>
+    requires { Room m.now }
+    ensures { OpenedAt transaction (flat_of m.now).opens result }
+{
+    let i = memory_layout::find_open(m, transaction);
+    if i < engine_opens::open_count(m) {
+        Some(i)
+    } else {
+        None
+    }
+}
+
+// 4; 6 transaction above 4,095; 7 not open.
+fn check_open(m: &[u8], transaction: u64) -> Result<(), Refusal>
+    ensures { number_in result ≡ refusal_in (store_in m.now) (not_open transaction) }
 {
     if !memory_layout::holds_store(m) {
-        return 4;
+        return Err(Refusal::NoStore);
     }
     if TRANSACTION_LIMIT < transaction {
-        return 6;
+        return Err(Refusal::TransactionRange);
     }
-    if engine_opens::open_count(m) <= memory_layout::find_open(m, transaction) {
-        return 7;
+    if opened_at(m, transaction).is_none() {
+        return Err(Refusal::NotOpen);
     }
-    0
+    Ok(())
 }
 
 // A transaction opens, if there is room for the record of it.
@@ -126,27 +128,26 @@ pub fn open_if(m: &mut [u8], room: bool, transaction: u64) -> Answer
     ensures { Answers (with_room room (open_call transaction)) m.old result m.new }
 {
     if !memory_layout::holds_store(m) {
-        return Answer::Refused(4);
+        return Err(Refusal::NoStore);
     }
     if TRANSACTION_LIMIT < transaction {
-        return Answer::Refused(6);
+        return Err(Refusal::TransactionRange);
     }
-    let n = engine_opens::open_count(m);
-    if memory_layout::find_open(m, transaction) < n {
-        return Answer::Refused(8);
+    if opened_at(m, transaction).is_some() {
+        return Err(Refusal::AlreadyOpen);
     }
-    if OPEN_LIMIT <= n {
-        return Answer::Refused(9);
+    if OPEN_LIMIT <= engine_opens::open_count(m) {
+        return Err(Refusal::TooManyOpen);
     }
     if !room {
-        return Answer::Refused(29);
+        return Err(Refusal::LogFull);
     }
-    let o = Open {
+    let opened = Open {
         transaction: transaction as u32,
         written: 0,
     };
-    memory_layout::push_open(m, o);
-    Answer::Done
+    memory_layout::push_open(m, opened);
+    Ok(Reply::Done)
 }
 
 pub fn open(m: &mut [u8], transaction: u64) -> Answer
@@ -160,24 +161,21 @@ pub fn open(m: &mut [u8], transaction: u64) -> Answer
 pub fn read(m: &[u8], transaction: u64, table: u64, key: u32, reply: &mut [u8]) -> Answer
     ensures { Replies (read_call transaction table key (length reply.old)) m.now result reply.old reply.new }
 {
-    let v = not_open(m, transaction);
-    if v != 0 {
-        return Answer::Refused(v);
-    }
+    check_open(m, transaction)?;
     if TABLE_LIMIT < table {
-        return Answer::Refused(10);
+        return Err(Refusal::TableRange);
     }
     let t = table as u8;
-    let Seen::At(i) = engine_lookup::seen_by(m, t, transaction, key) else {
-        return Answer::Refused(14);
+    let Some(i) = engine_lookup::seen_by(m, t, transaction, key) else {
+        return Err(Refusal::NotFound);
     };
     let p = memory_rows::payload_at(m, i);
     let len = p.len;
     if reply.len() < len {
-        return Answer::Refused(21);
+        return Err(Refusal::ReplyShort);
     }
     memory_rows::copy_payload(m, i, reply);
-    Answer::Filled(len)
+    Ok(Reply::Filled(len))
 }
 
 // The keys of the bookings of the table that the transaction sees and that cross the interval, over the first bytes of the reply.
@@ -191,15 +189,12 @@ pub fn crossing(
 ) -> Answer
     ensures { Replies (crossing_call transaction table first end (length reply.old)) m.now result reply.old reply.new }
 {
-    let v = not_open(m, transaction);
-    if v != 0 {
-        return Answer::Refused(v);
-    }
+    check_open(m, transaction)?;
     if TABLE_LIMIT < table {
-        return Answer::Refused(10);
+        return Err(Refusal::TableRange);
     }
     if end <= first {
-        return Answer::Refused(25);
+        return Err(Refusal::IntervalEmpty);
     }
     reply_crossing(m, table as u8, transaction, first, end, reply)
 }
@@ -209,14 +204,14 @@ pub fn list(m: &[u8], reply: &mut [u8]) -> Answer
     ensures { Replies (list_call (length reply.old)) m.now result reply.old reply.new }
 {
     if !memory_layout::holds_store(m) {
-        return Answer::Refused(4);
+        return Err(Refusal::NoStore);
     }
     let n = engine_opens::open_count(m);
     if reply.len() < 2 * n {
-        return Answer::Refused(21);
+        return Err(Refusal::ReplyShort);
     }
     engine_opens::fill_list(m, n, reply);
-    Answer::Filled(n)
+    Ok(Reply::Filled(n))
 }
 
 // ---- insert, replace, delete
@@ -243,13 +238,13 @@ fn next_row(m: &[u8], i: usize, key: u32, mark: bool) -> Row
     let h = memory_layout::get_head(m);
     let o = memory_layout::get_open(m, i);
     Row {
-        key: key,
+        key,
         number: h.next,
         owner: Owner::Tentative {
             transaction: o.transaction,
             statement: o.written,
         },
-        mark: mark,
+        mark,
         pending: Pending::Nothing,
     }
 }
@@ -286,7 +281,7 @@ fn accept(
 }
 
 // One tentative tuple more, unless a test holds, the last of which is that there is room for the record of it. One search for the key serves the
-// tests and gives the tuple's place.
+// tests and gives the tuple's place. Two flags, and no enum of the three calls: what is promised holds of each of the four writes of `write_call`.
 pub fn write_if(
     m: &mut [u8],
     room: bool,
@@ -299,21 +294,15 @@ pub fn write_if(
 ) -> Answer
     ensures { Answers (with_room room (write_call new mark transaction table key payload.now)) m.old result m.new }
 {
-    let v = call_refusal(m, transaction, table, payload.len());
-    if v != 0 {
-        return Answer::Refused(v);
-    }
+    check_call(m, transaction, table, payload.len())?;
     let t = table as u8;
     let s = engine_lookup::find_place(m, t, transaction, key);
-    let w = key_refusal(m, new, s.visibility);
-    if w != 0 {
-        return Answer::Refused(w);
-    }
+    check_key(m, new, s.visibility)?;
     if !room {
-        return Answer::Refused(29);
+        return Err(Refusal::LogFull);
     }
     accept(m, transaction, t, s.at, key, mark, payload);
-    Answer::Done
+    Ok(Reply::Done)
 }
 
 pub fn insert(m: &mut [u8], transaction: u64, table: u64, key: u32, payload: &[u8]) -> Answer
@@ -342,29 +331,23 @@ fn close(m: &mut [u8], transaction: u64)
     requires { Room m.old }
     ensures { Becomes m.old m.new (with_opens (flat_of m.old) (without transaction (flat_of m.old).opens)) }
 {
-    let mut n = engine_opens::open_count(m);
-    let mut i = memory_layout::find_open(m, transaction);
-    while i < n {
+    while let Some(i) = opened_at(m, transaction) {
         memory_layout::remove_open(m, i);
-        n -= 1;
-        i = memory_layout::find_open(m, transaction);
     }
 }
 
 // Keeps what the transaction wrote or takes it back, and closes it, if there is room for the record of it.
+// `keep` stays a flag: engine_close::close_rows takes the same one, and an enum would be turned back into it.
 pub fn end_if(m: &mut [u8], room: bool, transaction: u64, keep: bool) -> Answer
     ensures { Answers (with_room room (end_call keep transaction)) m.old result m.new }
 {
-    let v = not_open(m, transaction);
-    if v != 0 {
-        return Answer::Refused(v);
-    }
+    check_open(m, transaction)?;
     if !room {
-        return Answer::Refused(29);
+        return Err(Refusal::LogFull);
     }
     engine_close::close_rows(m, transaction, keep);
     close(m, transaction);
-    Answer::Done
+    Ok(Reply::Done)
 }
 
 // Keeps what the transaction wrote, and closes it.

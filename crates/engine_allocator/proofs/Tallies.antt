@@ -10,15 +10,16 @@ use Rattle.memory_layout.specs.Views.{head_of}
 use Rattle.memory_layout.specs.Flat.{Flat, flat_of, Room}
 use Rattle.memory_layout.specs.Store.{page_of, nest, pages_in, holds_store, store_of}
 use Rattle.memory_layout.specs.declared.Entry.{Entry}
-use Rattle.memory_layout.specs.declared.Head.{Head}
 use Rattle.memory_layout.proofs.Laws.{Known, known, sizes, filled, holds_room}
 use Rattle.memory_layout.proofs.Nest.{counted_length}
 use Rattle.memory_layout.proofs.Exchange.{pages_count}
 use Rattle.memory_pages.specs.Pages.{frozen_entry, dirty_entry}
 use Rattle.engine_pages.specs.Pages.{pages_of}
 use Rattle.engine_pages.proofs.Places.{counted}
-use Rattle.engine_allocator.specs.Blocks.{or_else, free_from}
-use Rattle.basics.proofs.Firsts.{first_hit, first_past, first_some, first_skip, from_iteration, from_end, from_low}
+use Rattle.std.specs.Prelude.{Option as Found, Some, None}
+use Rattle.std.specs.Option.{unwrap_or}
+use Rattle.engine_allocator.specs.Blocks.{FirstFree}
+use Rattle.basics.proofs.Firsts.{first_hit, first_past, first_some, first_skip, from_iteration, from_end}
 
 -- ---- counts
 
@@ -78,83 +79,45 @@ module _ (f : Flat) where
 
 -- ---- searches
 
+-- the search from block a on, up to, not including, block e
+abbrev pub search : (ℕ → Bool) → ℕ → ℕ → Option ℕ
+search used a e = first (λ b. not (used b)) (from a (e - a))
+
 module _ (used : ℕ → Bool) (a e : ℕ) where
-  pub free_hit : a < e → used a ≡ false → free_from used a e ≡ a
-  unfolding free_from or_else
-  free_hit h u = ap (λ (l : List ℕ). or_else e (first (λ b. not (used b)) l)) (from_iteration a e h) ∙ ap (or_else e) (first_hit _ a _ (ap not u))
+  pub free_hit : a < e → used a ≡ false → search used a e ≡ some a
+  free_hit h u = ap (first (λ b. not (used b))) (from_iteration a e h) ∙ first_hit _ a _ (ap not u)
 
-  pub free_miss : a < e → used a ≡ true → free_from used a e ≡ free_from used (a + 1) e
-  unfolding free_from
-  free_miss h u = ap (λ (l : List ℕ). or_else e (first (λ b. not (used b)) l)) (from_iteration a e h) ∙ ap (or_else e) (first_past _ a _ (ap not u))
+  pub free_miss : a < e → used a ≡ true → search used a e ≡ search used (a + 1) e
+  free_miss h u = ap (first (λ b. not (used b))) (from_iteration a e h) ∙ first_past _ a _ (ap not u)
 
-  pub free_end : e ≤ a → free_from used a e ≡ e
-  unfolding free_from or_else first
-  free_end h = ap (λ (l : List ℕ). or_else e (first (λ b. not (used b)) l)) (from_end a e h)
+  pub free_end : e ≤ a → search used a e ≡ none
+  unfolding first
+  free_end h = ap (first (λ b. not (used b))) (from_end a e h)
 
-or_found : (e n : ℕ) (o : Option ℕ) → ((b : ℕ) → o ≡ some b → b < n) → n ≤ e → or_else e o < n → o ≡ some (or_else e o)
-unfolding or_else
-or_found e n none low h l = absurd (omega arith)
-or_found e n (some b) low h l = refl
+-- the model's search goes over both ranges, from the block after the one last taken on and from block 1 up to it
+module _ (f : Flat) {n t : ℕ} (en : n ≡ f.head.blocks) (et : t ≡ f.head.taken) where
+  abbrev found : Option ℕ → ℕ
+  found o = elim o [ some b ↦ b | none ↦ n - 1 ]
 
-or_none : (e n : ℕ) (o : Option ℕ) → ((b : ℕ) → o ≡ some b → b < n) → n ≤ or_else e o → o ≡ none
-unfolding or_else
-or_none e n none low l = refl
-or_none e n (some b) low l = absurd (omega (arith, low b refl))
-
-module _ (used : ℕ → Bool) (a e : ℕ) (l : a ≤ e) where
-  below : (b : ℕ) → first (λ b. not (used b)) (from a (e - a)) ≡ some b → b < e
-  below b q = omega (arith, from_low (λ b. not (used b)) a (e - a) b q)
-
-  found_free : free_from used a e < e → first (λ b. not (used b)) (from a (e - a)) ≡ some (free_from used a e)
-  unfolding free_from
-  found_free h = or_found e e _ below (omega arith) h
-
-  no_free : e ≤ free_from used a e → first (λ b. not (used b)) (from a (e - a)) ≡ none
-  unfolding free_from
-  no_free h = or_none e e _ below h
-
-or_last : (n : ℕ) (o : Option ℕ) → elim o [ some b ↦ b | none ↦ n - 1 ] ≡ or_else (n - 1) o
-unfolding or_else
-or_last n none = refl
-or_last n (some b) = refl
-
--- the two searches, from the block after the one last taken on and from block 1 up to it
-abbrev pub upward : Flat → ℕ
-upward f = free_from f.used (f.head.taken + 1) f.head.blocks
-
-abbrev pub around : Flat → ℕ
-around f = free_from f.used 1 (f.head.taken + 1)
-
-module _ (f : Flat) (low : f.head.taken < f.head.blocks) where
-  alloc_is : allocate (store_of f)
-      ≡ or_else (f.head.blocks - 1) (first (λ b. not (f.used b)) (from (f.head.taken + 1) (f.head.blocks - (f.head.taken + 1)) ++ from 1 (f.head.taken + 1 - 1)))
+  alloc_is : allocate (store_of f) ≡ found (first (λ b. not (f.used b)) (from (t + 1) (n - (t + 1)) ++ from 1 (t + 1 - 1)))
   unfolding allocate is_free store_of
   alloc_is =
-      let t : ℕ = f.head.taken in
-      let n : ℕ = f.head.blocks in
-      let e : suc t ≡ t + 1 = omega arith in
-      let d : t ≡ t + 1 - 1 = omega arith in
-      or_last n _ ∙ (λ i. or_else (n - 1) (first (λ b. not (f.used b)) (from (e i) (n - e i) ++ from 1 (d i))))
+      let e : suc f.head.taken ≡ t + 1 = omega arith in
+      let d : f.head.taken ≡ t + 1 - 1 = omega arith in
+      λ i. elim (first (λ b. not (f.used b)) (from (e i) (sym en i - e i) ++ from 1 (d i))) [ some b ↦ b | none ↦ sym en i - 1 ]
 
-  pub alloc_up : upward f < f.head.blocks → upward f ≡ allocate (store_of f)
-  unfolding or_else
-  alloc_up h = sym (alloc_is ∙ ap (or_else (f.head.blocks - 1)) (first_some _ _ _ _ (found_free f.used (f.head.taken + 1) f.head.blocks (omega arith) h)))
+  pub alloc_up : {b : ℕ} → search f.used (t + 1) n ≡ some b → b ≡ allocate (store_of f)
+  alloc_up h = sym (alloc_is ∙ ap found (first_some _ _ _ _ h))
 
-  module _ (h : f.head.blocks ≤ upward f) where
-    rest_is : allocate (store_of f) ≡ or_else (f.head.blocks - 1) (first (λ b. not (f.used b)) (from 1 (f.head.taken + 1 - 1)))
-    rest_is = alloc_is ∙ ap (or_else (f.head.blocks - 1)) (first_skip _ _ _ (no_free f.used (f.head.taken + 1) f.head.blocks (omega arith) h))
+  module _ (h : search f.used (t + 1) n ≡ none) where
+    rest_is : allocate (store_of f) ≡ found (search f.used 1 (t + 1))
+    rest_is = alloc_is ∙ ap found (first_skip _ _ _ h)
 
-    pub alloc_round : around f < f.head.taken + 1 → around f ≡ allocate (store_of f)
-    unfolding or_else
-    alloc_round k = sym (rest_is ∙ ap (or_else (f.head.blocks - 1)) (found_free f.used 1 (f.head.taken + 1) (omega arith) k))
+    pub alloc_round : (o : Found ℕ) → FirstFree f.used 1 (t + 1) o → unwrap_or o (n - 1) ≡ allocate (store_of f)
+    alloc_round (Some b) g = sym (rest_is ∙ ap found g.0)
+    alloc_round None g = sym (rest_is ∙ ap found g)
 
-    pub alloc_none : f.head.taken + 1 ≤ around f → f.head.blocks - 1 ≡ allocate (store_of f)
-    unfolding or_else
-    alloc_none k = sym (rest_is ∙ ap (or_else (f.head.blocks - 1)) (no_free f.used 1 (f.head.taken + 1) (omega arith) k))
-
-module _ (f : Flat) {a r : ℕ} where
-  pub up_from : {h : Head} → h ≡ f.head → r ≡ free_from f.used a h.blocks → a ≡ f.head.taken + 1 → r ≡ upward f
-  up_from e q ea = q ∙ (λ i. free_from f.used (ea i) (e i).blocks)
-
-  pub round_from : {z : ℕ} → r ≡ free_from f.used a z → a ≡ 1 → z ≡ f.head.taken + 1 → r ≡ around f
-  round_from w ea ez = w ∙ (λ i. free_from f.used (ea i) (ez i))
+-- what is found is below the end of its range, and the last block is one
+pub round_low : (used : ℕ → Bool) (t n : ℕ) (o : Found ℕ) → FirstFree used 1 (t + 1) o → t < n → unwrap_or o (n - 1) < n
+round_low used t n (Some b) g h = omega (arith, g.1)
+round_low used t n None g h = omega arith

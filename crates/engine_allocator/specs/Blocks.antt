@@ -1,6 +1,6 @@
 -- What is counted and searched for the blocks that a checkpoint takes.
-use Rattle.std.specs.Prelude.{ℕ, ◌-◌, ◌≤◌, Bool, not, List, length}
-use Rattle.std.proofs.Math.Option.{Option, none, some}
+use Rattle.std.specs.Prelude.{◌≡◌, ℕ, ◌-◌, ◌≤◌, ◌<◌, Bool, not, List, length, Option as Found, Some, None}
+use Rattle.std.proofs.Math.Option.{none, some}
 use Rattle.basics.specs.Basics.{first, from}
 use Rattle.block_forms.specs.Limits.{block_limit}
 use Rattle.model.specs.Checkpoint.{blocks_left}
@@ -19,11 +19,7 @@ pub record BlockRange (m : List ℕ) (a e : ℕ) : Type 0 where
   pub order : a ≤ e
   pub most : e ≤ block_limit
 
--- what was found, else e
-unfoldable pub or_else : ℕ → Option ℕ → ℕ
-or_else e none = e
-or_else e (some b) = b
-
--- the first block from a up to, not including, e that is not in use; e, if there is none
-unfoldable pub free_from : (ℕ → Bool) → ℕ → ℕ → ℕ
-free_from used a e = or_else e (first (λ b. not (used b)) (from a (e - a)))
+-- o is the first block from a up to, not including, e that is not in use
+abbrev pub FirstFree : (ℕ → Bool) → ℕ → ℕ → Found ℕ → Type 0
+FirstFree used a e (Some b) = (first (λ b. not (used b)) (from a (e - a)) ≡ some b) × (b < e)
+FirstFree used a e None = first (λ b. not (used b)) (from a (e - a)) ≡ none

@@ -2,14 +2,14 @@
 #![tactic(auto)]
 
 ghost use Rattle.std.specs.Prelude.{◌≡◌, true, ◌+◌, ◌-◌, ◌≤◌, ◌<◌, length, leb};
-ghost use Rattle.basics.specs.Basics.{how_many, one_if};
+ghost use Rattle.basics.specs.Basics.{how_many};
 ghost use Rattle.image.specs.Stages.{directories_for};
 ghost use Rattle.model.specs.Rules.{is_frozen};
 ghost use Rattle.model.specs.Checkpoint.{allocate, free_count, blocks_needed};
 ghost use Rattle.memory_layout.specs.Flat.{flat_of, Room};
 ghost use Rattle.memory_layout.specs.Store.{holds_store, store_of};
 ghost use Rattle.engine_pages.specs.Pages.{pages_of};
-ghost use Rattle.engine_allocator.specs.Blocks.{BlockRange, free_from, allocator_in};
+ghost use Rattle.engine_allocator.specs.Blocks.{BlockRange, FirstFree, allocator_in};
 
 // The block last taken, after which the next search starts, and how many blocks the running checkpoint has still to take: one for
 // each frozen page and for each directory block to come. The header takes none.
@@ -19,31 +19,18 @@ pub struct Allocator {
     pub left: u64,
 }
 
-// 1 for true, 0 for false.
-fn one_if(b: bool) -> usize
-    ensures { (result ≡ one_if b) × (result ≤ 1) }
-{
-    if b {
-        return 1;
-    }
-    0
-}
-
 // Whether so many blocks are free: the search ends where that is known.
 pub fn enough_free(m: &[u8], need: usize) -> bool
     requires { Room m.now }
     ensures { result ≡ leb need (free_count (store_of (flat_of m.now))) }
 {
-    let h = memory_layout::get_head(m);
-    let n = h.blocks as usize;
+    let n = memory_layout::get_head(m).blocks as usize;
     let mut k: usize = 0;
-    let mut b: usize = 1;
-    while b < n {
+    for b in 1..n {
         if need <= k {
             return true;
         }
-        k += one_if(!memory_layout::is_used(m, b));
-        b += 1;
+        k += usize::from(!memory_layout::is_used(m, b));
     }
     need <= k
 }
@@ -64,11 +51,7 @@ fn directories_left(m: &[u8]) -> usize
 {
     let c = memory_layout::get_counts(m);
     let d = image_header::directories_for(c.named as usize);
-    let w = c.directories as usize;
-    if d < w {
-        return 0;
-    }
-    d - w
+    d.saturating_sub(c.directories as usize)
 }
 
 // How many blocks are still to be taken: one for each of so many frozen pages, and the directory's.
@@ -76,23 +59,20 @@ pub fn blocks_left(m: &[u8], frozen: usize) -> u64
     requires { Room m.now × (frozen ≡ how_many is_frozen (pages_of m.now)) }
     ensures { (result ≡ (allocator_in m.now).left) × (result ≤ 2052) }
 {
-    let n = frozen + directories_left(m);
-    n as u64
+    (frozen + directories_left(m)) as u64
 }
 
-// The first free block from a up to, not including, e; e, if there is none.
-fn first_free(m: &[u8], a: usize, e: usize) -> usize
+// The first free block from a up to, not including, e.
+fn first_free(m: &[u8], a: usize, e: usize) -> Option<usize>
     requires { BlockRange m.now a e }
-    ensures { (result ≡ free_from (flat_of m.now).used a e) × (result ≤ e) }
+    ensures { FirstFree (flat_of m.now).used a e result }
 {
-    let mut b = a;
-    while b < e {
+    for b in a..e {
         if !memory_layout::is_used(m, b) {
-            return b;
+            return Some(b);
         }
-        b += 1;
     }
-    e
+    None
 }
 
 // The first free block after the one last taken, round to block 1; the last block, if there is none.
@@ -100,16 +80,10 @@ pub fn allocate(m: &[u8], taken: u32) -> usize
     requires { Room m.now × (taken ≡ (allocator_in m.now).taken) }
     ensures { (result ≡ allocate (store_of (flat_of m.now))) × (result < (flat_of m.now).head.blocks) }
 {
-    let h = memory_layout::get_head(m);
-    let n = h.blocks as usize;
+    let n = memory_layout::get_head(m).blocks as usize;
     let t = taken as usize;
-    let b = first_free(m, t + 1, n);
-    if b < n {
+    if let Some(b) = first_free(m, t + 1, n) {
         return b;
     }
-    let w = first_free(m, 1, t + 1);
-    if w <= t {
-        return w;
-    }
-    n - 1
+    first_free(m, 1, t + 1).unwrap_or(n - 1)
 }

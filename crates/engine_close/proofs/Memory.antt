@@ -18,7 +18,7 @@ use Rattle.basics.proofs.Tabs.{lt_or_ge}
 use Rattle.memory_pages.specs.Pages.{TableFrom, OnPages, PageOf}
 use Rattle.engine_pages.specs.Pages.{RowOn}
 use Rattle.engine_pages.proofs.Rows.{tag, nest_rows}
-use Rattle.engine_close.specs.Close.{tagged_of, row_from, RowsFrom}
+use Rattle.engine_close.specs.Close.{tagged_of, row_from, RowOfTable, RowsFrom}
 
 -- ---- rows
 
@@ -142,3 +142,8 @@ row_on {m} {i} {r} h o =
       least = o.first;
       most = omega (arith, start_next (flat_of m) r o.high, o.last);
     }
+
+-- a row on a page whose table is t
+pub table_there : {m : List ℕ} → Room m → {i p t : ℕ} → i < length (tagged_of m) → PageOf (flat_of m) 0 (length (flat_of m).entries) i p → (t ≡ (entry_in (flat_of m) p).table) × (t < 8)
+    → RowOfTable m i t
+table_there {m} room h o t = record { room = room; inside = h; table = t.0 ∙ sym (table_is m room o); below = t.1 }

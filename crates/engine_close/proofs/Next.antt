@@ -85,14 +85,14 @@ module _ (tx : ℕ) where
 -- ---- one step
 
 -- no own row is left
-pub none_left : (keep : Bool) {m : List ℕ} {tx i r : ℕ} → holds_store m ≡ true → i < length (tagged_of m) → NextOwn (tagged_of m) tx i (length (tagged_of m)) r
+pub none_left : (keep : Bool) {m : List ℕ} {tx i r : ℕ} → holds_store m ≡ true → i < length (tagged_of m) → NextOwn (tagged_of m) tx i (length (tagged_of m)) (length (tagged_of m))
     → r ≡ length (tagged_of m) → NextDone (left_from keep tx) m m i r
 none_left keep {m} {tx} {i} {r} s h o e =
-    record { pages = now_stay m s; most = o.most; fewer = omega arith; further = omega arith; same = λ n l. passed n keep }
+    record { pages = now_stay m s; most = omega arith; fewer = omega arith; further = omega arith; same = λ n l. passed n keep }
   where
     passed : (n : ℕ) (keep : Bool) → left_from keep tx n i (pages_of m) ≡ left_from keep tx n r (pages_of m)
     passed n true = close_none tx n (pages_of m) i (λ j x y. o.passed j x (omega arith)) ∙ sym (close_none tx n (pages_of m) r (λ j x y. absurd (omega arith)))
-    passed n false = abort_next n tx (pages_of m) o
+    passed n false = abort_next n tx (pages_of m) o ∙ ap (λ (z : ℕ). aborted_from tx n z (pages_of m)) (sym e)
 
 -- the next own row is removed
 pub one_aborted : (keep : Bool) {m m' : List ℕ} {tx i own r : ℕ} → keep ≡ false → NextOwn (tagged_of m) tx i (length (tagged_of m)) own → own < length (tagged_of m)

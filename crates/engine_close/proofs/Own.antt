@@ -10,7 +10,8 @@ use Rattle.basics.proofs.Elements.{off_any, and_no, all_at}
 use Rattle.basics.proofs.Tabs.{lt_or_ge}
 use Rattle.memory_layout.specs.Flat.{flat_of, no_row, row_in, Room}
 use Rattle.memory_rows.specs.Rows.{is_live_own, is_owned}
-use Rattle.engine_close.specs.Close.{tagged_of, is_own_row}
+use Rattle.std.specs.Prelude.{Option as Found, Some, None}
+use Rattle.engine_close.specs.Close.{tagged_of, is_own_row, FirstOwn}
 use Rattle.engine_close.proofs.Memory.{row_is, tagged_length}
 
 -- rows i up to r are not own
@@ -56,3 +57,11 @@ module _ (m : List ℕ) (room : Room m) (tx : ℕ) where
 
   pub not_later_more : {r e : ℕ} → NotLater m tx r e → is_live_own tx (row_in (flat_of m) r) ≡ false → NotLater m tx (r - 1) e
   not_later_more {r} n o j x y = ⊎_elim (λ z. n j z y) (λ z. let q : j ≡ r = omega arith in own_is j ∙ ap (λ k. is_live_own tx (row_in (flat_of m) k)) q ∙ o) (lt_or_ge r j)
+
+-- no row from row i up to row g is an own row, and the first one from there on is found
+pub own_on : {m : List ℕ} → Room m → (tx : ℕ) {i g n : ℕ} → i ≤ g → NotOwn m tx i g → n ≡ length (tagged_of m) → (o : Found ℕ) → FirstOwn (tagged_of m) tx g n o
+    → FirstOwn (tagged_of m) tx i (length (tagged_of m)) o
+own_on {m} room tx l p e (Some r) (o, h) =
+    (record { low = omega (arith, o.low); most = omega (arith, e); passed = not_own_then m room tx p o.passed; found = λ x. o.found h }, omega arith)
+own_on {m} room tx l p e None o =
+    record { low = omega (arith, o.low, e); most = omega arith; passed = λ j x y. not_own_then m room tx p o.passed j x (omega arith); found = λ x. absurd (omega arith) }

@@ -1,6 +1,6 @@
 -- Commit and abort by row index: the rows that are looked for, and what is done to the pages. xs: every tuple that is held, with its
 -- table; n: how many were held at the start of the commit or abort.
-use Rattle.std.specs.Prelude.{ℕ, suc, ◌+◌, ◌-◌, ◌<◌, ◌≤◌, ◌≡◌, Bool, true, false, not, List, [], length, take, drop, get_or}
+use Rattle.std.specs.Prelude.{ℕ, suc, ◌+◌, ◌-◌, ◌<◌, ◌≤◌, ◌≡◌, Bool, true, false, not, List, [], length, take, drop, get_or, Option as Found, Some, None}
 use Rattle.std.proofs.Math.Option.{some}
 use Rattle.basics.specs.Basics.{keep}
 use Rattle.model.specs.State.{Held, Page}
@@ -48,18 +48,17 @@ pub record RowOfTable (m : List ℕ) (i t : ℕ) : Type 0 where
   pub table : t ≡ (row_from (tagged_of m) i).0
   pub below : t < 8
 
--- r is the larger of a and b
-pub record Larger (a b r : ℕ) : Type 0 where
-  pub first : a ≤ r
-  pub second : b ≤ r
-  pub which : a < r → r ≡ b
-
 -- r is the first own row from row i up to, not including, row e; e if there is none
 pub record NextOwn (xs : List (ℕ × Held)) (tx i e r : ℕ) : Type 0 where
   pub low : i ≤ r
   pub most : r ≤ e
   pub passed : (j : ℕ) → i ≤ j → j < r → is_own_row tx xs j ≡ false
   pub found : r < e → is_own_row tx xs r ≡ true
+
+-- o is the first own row from row i up to, not including, row e
+abbrev pub FirstOwn : List (ℕ × Held) → ℕ → ℕ → ℕ → Found ℕ → Type 0
+FirstOwn xs tx i e (Some r) = NextOwn xs tx i e r × (r < e)
+FirstOwn xs tx i e None = NextOwn xs tx i e e
 
 -- r is the first row of table t or of a later one, or how many rows there are
 pub record RowsFrom (xs : List (ℕ × Held)) (t r : ℕ) : Type 0 where

@@ -8,7 +8,7 @@ ghost use Rattle.memory_layout.specs.Flat.{flat_of, Room};
 ghost use Rattle.memory_layout.specs.Store.{store_of, holds_store, HoldsNow};
 ghost use Rattle.memory_pages.specs.Pages.{PageOf};
 ghost use Rattle.engine_pages.specs.Pages.{with_pages, PagesNow, pages_of};
-ghost use Rattle.engine_close.specs.Close.{tagged_of, row_from, is_live, Part, OwnPart, RowOfTable, Larger, NextOwn, RowsFrom, RunFrom, RunTo, NewestOwn};
+ghost use Rattle.engine_close.specs.Close.{tagged_of, row_from, is_live, Part, OwnPart, RowOfTable, FirstOwn, RowsFrom, RunFrom, RunTo, NewestOwn};
 ghost use Rattle.engine_close.specs.Close.{left_from, closed_pages, RowRemoved, LiveRemoved, Within, RunClosed, NextDone};
 
 // Rows that are looked at together.
@@ -21,8 +21,7 @@ fn row_count(m: &[u8]) -> usize
     requires { Room m.now }
     ensures { result ≡ length (tagged_of m.now) }
 {
-    let n = memory_layout::get_counts(m);
-    n.rows as usize
+    memory_layout::get_counts(m).rows as usize
 }
 
 // How many pages there are.
@@ -30,8 +29,7 @@ fn page_count(m: &[u8]) -> usize
     requires { Room m.now }
     ensures { result ≡ length (flat_of m.now).entries }
 {
-    let n = memory_layout::get_counts(m);
-    n.pages as usize
+    memory_layout::get_counts(m).pages as usize
 }
 
 // The page of row i.
@@ -74,45 +72,44 @@ fn is_live(m: &[u8], i: usize) -> bool
 
 // ---- own rows
 
-// The first own row from row i up to, not including, row e; e if there is none.
-fn own_in(m: &[u8], i: usize, e: usize, transaction: u64) -> usize
+// The first own row from row i up to, not including, row e.
+fn own_in(m: &[u8], i: usize, e: usize, transaction: u64) -> Option<usize>
     requires { Room m.now × Part (tagged_of m.now) i e }
-    ensures { NextOwn (tagged_of m.now) transaction i e result }
+    ensures { FirstOwn (tagged_of m.now) transaction i e result }
 {
-    let mut r = i;
-    while r < e {
+    for r in i..e {
         if memory_rows::owns(m, r, transaction) {
-            return r;
+            return Some(r);
         }
-        r += 1;
     }
-    r
+    None
 }
 
-// The first own row of the group from row g on, or the row behind it. A group without a tentative row is passed over.
-fn own_in_group(m: &[u8], g: usize, transaction: u64) -> usize
+// The first own row of the group from row g on. A group without a tentative row is passed over.
+fn own_in_group(m: &[u8], g: usize, transaction: u64) -> Option<usize>
     requires { Room m.now × (g + 16 ≤ length (tagged_of m.now)) }
-    ensures { NextOwn (tagged_of m.now) transaction g (g + 16) result }
+    ensures { FirstOwn (tagged_of m.now) transaction g (g + 16) result }
 {
     if memory_rows::any_tentative(m, g) {
-        return own_in(m, g, g + GROUP, transaction);
+        own_in(m, g, g + GROUP, transaction)
+    } else {
+        None
     }
-    g + GROUP
 }
 
-// The first own row from row i on, or how many rows there are.
-fn next_own(m: &[u8], i: usize, transaction: u64) -> usize
+// The first own row from row i on: group by group, and then in the rows that are no whole group.
+fn next_own(m: &[u8], i: usize, transaction: u64) -> Option<usize>
     requires { Room m.now × (i ≤ length (tagged_of m.now)) }
-    ensures { NextOwn (tagged_of m.now) transaction i (length (tagged_of m.now)) result }
+    ensures { FirstOwn (tagged_of m.now) transaction i (length (tagged_of m.now)) result }
 {
     let n = row_count(m);
     let mut g = i;
+    // no `for` over groups: what is behind the last whole one is searched from g on
     while g + GROUP <= n {
-        let r = own_in_group(m, g, transaction);
-        if r < g + GROUP {
-            return r;
+        if let Some(r) = own_in_group(m, g, transaction) {
+            return Some(r);
         }
-        g = r;
+        g += GROUP;
     }
     own_in(m, g, n, transaction)
 }
@@ -122,43 +119,29 @@ fn newest_own(m: &[u8], i: usize, e: usize, transaction: u64) -> usize
     requires { Room m.now × OwnPart (tagged_of m.now) transaction i e }
     ensures { NewestOwn (tagged_of m.now) transaction i e result }
 {
-    let mut r = e - 1;
-    while i < r {
+    for r in (i + 1..e).rev() {
         if memory_rows::owns(m, r, transaction) {
             return r;
         }
-        r -= 1;
     }
-    r
+    i
 }
 
 // ---- runs: neighbours of one table and key
-
-// The larger of the two.
-fn later(a: usize, b: usize) -> usize
-    ensures { Larger a b result }
-{
-    if a < b {
-        return b;
-    }
-    a
-}
 
 // The first row of the run of row i, which is of table t; row `from`, if the run begins before it.
 pub fn run_start(m: &[u8], from: usize, i: usize, t: usize) -> usize
     requires { RowOfTable m.now i t × (from ≤ i) }
     ensures { RunFrom (tagged_of m.now) from i result }
 {
-    let low = later(from, first_row(m, t));
+    let low = from.max(first_row(m, t));
     let key = memory_rows::key_at(m, i);
-    let mut r = i;
-    while low < r {
-        if memory_rows::key_at(m, r - 1) != key {
-            return r;
+    for r in (low..i).rev() {
+        if memory_rows::key_at(m, r) != key {
+            return r + 1;
         }
-        r -= 1;
     }
-    r
+    low
 }
 
 // The row behind the run of row i, which is of table t.
@@ -168,14 +151,12 @@ pub fn run_end(m: &[u8], i: usize, t: usize) -> usize
 {
     let end = first_row(m, t + 1);
     let key = memory_rows::key_at(m, i);
-    let mut r = i + 1;
-    while r < end {
+    for r in i + 1..end {
         if memory_rows::key_at(m, r) != key {
             return r;
         }
-        r += 1;
     }
-    r
+    end
 }
 
 // ---- changes. `near` is a page that probably has the row, so that it is not looked for again; any number may be given.
@@ -206,9 +187,10 @@ fn remove_live(m: &mut [u8], i: usize, near: usize) -> usize
     ensures { LiveRemoved m.old m.new i 1 result }
 {
     if is_live(m, i) {
-        return remove_row(m, i, near);
+        remove_row(m, i, near)
+    } else {
+        i + 1
     }
-    i + 1
 }
 
 // Removes the live ones of k rows from row i on; the row that is then behind them.
@@ -217,10 +199,8 @@ fn remove_rows(m: &mut [u8], i: usize, k: usize, near: usize) -> usize
     ensures { LiveRemoved m.old m.new i k result }
 {
     let mut r = i;
-    let mut left = k;
-    while 0 < left {
+    for _ in 0..k {
         r = remove_live(m, r, near);
-        left -= 1;
     }
     r
 }
@@ -246,10 +226,9 @@ fn close_next(m: &mut [u8], i: usize, transaction: u64, keep: bool) -> usize
     requires { (holds_store m.old ≡ true) × (i < length (tagged_of m.old)) }
     ensures { NextDone (left_from keep transaction) m.old m.new i result }
 {
-    let own = next_own(m, i, transaction);
-    if own == row_count(m) {
-        return own;
-    }
+    let Some(own) = next_own(m, i, transaction) else {
+        return row_count(m);
+    };
     let p = page_of(m, own);
     if !keep {
         return remove_row(m, own, p);
@@ -268,6 +247,7 @@ pub fn close_rows(m: &mut [u8], transaction: u64, keep: bool)
     ensures { HoldsNow m.old m.new (with_pages (store_of (flat_of m.old)) (closed_pages keep transaction (pages_of m.old))) }
 {
     let mut i = 0;
+    // no `for` over the rows: each step leaves fewer of them, or other ones
     while i < row_count(m) {
         i = close_next(m, i, transaction, keep);
     }

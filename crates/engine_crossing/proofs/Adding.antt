@@ -8,8 +8,7 @@ use Rattle.model.specs.Crossing.{crosses, key_if, key_bytes}
 use Rattle.memory_layout.specs.Flat.{Flat, row_in}
 use Rattle.memory_rows.specs.Rows.{key_in}
 use Rattle.engine_lookup.specs.Lookup.{version, seen_at, Inside}
-use Rattle.engine_lookup.specs.declared.Seen.{Seen}
-use Rattle.engine_lookup.specs.declared.Seen.TheVariants.{At, Nothing}
+use Rattle.std.specs.Prelude.{Option as Found, Some, None}
 use Rattle.model.proofs.Rows.{applied_is}
 use Rattle.block_forms.specs.Tuple.{Tuple}
 use Rattle.engine_crossing.specs.Crossing.{NoneCross, RunSeen, run_keys, RunAdded}
@@ -22,13 +21,13 @@ cross_more f first end i r p h j x y =
 
 -- ---- what is seen of a run
 
-module _ {f : Flat} (tx first end a b : ℕ) {r : Seen} (s : RunSeen f tx a b r) where
+module _ {f : Flat} (tx first end a b : ℕ) {r : Found ℕ} (s : RunSeen f tx a b r) where
   -- nothing
-  keys_nothing : r ≡ Nothing → (t : ℕ) → run_keys f tx first end t a b ≡ []
+  keys_nothing : r ≡ None → (t : ℕ) → run_keys f tx first end t a b ≡ []
   unfolding seen_at key_if
   keys_nothing e t = ap (key_if first end) (sym (s t).means ∙ ap (seen_at f t) e)
 
-  module _ (k : ℕ) (e : r ≡ At k) where
+  module _ (k : ℕ) (e : r ≡ Some k) where
     pub run_inside : k < length f.rows
     unfolding Inside
     run_inside = rw e at (s 0).inside
@@ -53,13 +52,13 @@ module _ {f : Flat} (tx first end a b : ℕ) {r : Seen} (s : RunSeen f tx a b r)
     added_none e =
         record { count = λ t. omega (arith, ap length (e t)); keys = λ t. sym (over_nil out (4 * n)) ∙ ap (λ ks. over out (4 * n) (key_bytes ks)) (sym (e t)) }
 
-    pub added_unseen : r ≡ Nothing → RunAdded f tx first end a b n n out out
+    pub added_unseen : r ≡ None → RunAdded f tx first end a b n n out out
     added_unseen e = added_none (keys_nothing e)
 
-    pub added_not : (k : ℕ) → r ≡ At k → crosses first end (row_in f k).tuple ≡ false → RunAdded f tx first end a b n n out out
+    pub added_not : (k : ℕ) → r ≡ Some k → crosses first end (row_in f k).tuple ≡ false → RunAdded f tx first end a b n n out out
     added_not k e c = added_none (keys_not k e c)
 
-    pub added_key : {out' : List ℕ} {key : ℕ} (k : ℕ) → r ≡ At k → crosses first end (row_in f k).tuple ≡ true → key ≡ key_in f k
+    pub added_key : {out' : List ℕ} {key : ℕ} (k : ℕ) → r ≡ Some k → crosses first end (row_in f k).tuple ≡ true → key ≡ key_in f k
         → out' ≡ over out (4 * n) (key_bytes (key ∷ [])) → RunAdded f tx first end a b n (n + 1) out out'
     added_key k e c q h =
         record {

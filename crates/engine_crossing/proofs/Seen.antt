@@ -15,7 +15,7 @@ use Rattle.memory_layout.specs.Flat.{flat_of, row_in}
 use Rattle.memory_rows.specs.Rows.{key_in}
 use Rattle.engine_lookup.specs.Lookup.{Shows, blank, notes, picked}
 use Rattle.engine_lookup.specs.declared.Visibility.{Visibility}
-use Rattle.engine_lookup.specs.declared.Seen.{Seen}
+use Rattle.std.specs.Prelude.{Option as Found}
 use Rattle.engine_lookup.proofs.Versions.{versions_on, shows_rows}
 use Rattle.engine_lookup.proofs.Picking.{picked_sees}
 use Rattle.engine_crossing.specs.Crossing.{OneKey, run_rows, RunSeen}
@@ -39,6 +39,6 @@ module _ {m : List ℕ} (tx : ℕ) {a b : ℕ} (o : OneKey m a b) {l none : Visi
       let s = shows_rows f t tx k (b - a) a (omega (arith, o.some, o.inside)) in
       rw (e, q, sym z) s
 
-pub run_seen : (m : List ℕ) (tx a b : ℕ) {l : Visibility} → ((t : ℕ) → Shows (flat_of m) t tx (run_rows (flat_of m) t a b) l) → {r : Seen} → r ≡ picked (flat_of m) l
+pub run_seen : (m : List ℕ) (tx a b : ℕ) {l : Visibility} → ((t : ℕ) → Shows (flat_of m) t tx (run_rows (flat_of m) t a b) l) → {r : Found ℕ} → r ≡ picked (flat_of m) l
     → RunSeen (flat_of m) tx a b r
 run_seen m tx a b s e t = picked_sees (s t) e

@@ -1,5 +1,5 @@
 -- Bookings that cross an interval, by row index: the rows that are looked for, and the keys that are put out.
-use Rattle.std.specs.Prelude.{ℕ, ◌+◌, ◌-◌, ◌*◌, ◌<◌, ◌≤◌, ◌≡◌, true, false, List, [], ◌∷◌, ◌++◌, length, drop}
+use Rattle.std.specs.Prelude.{ℕ, ◌+◌, ◌-◌, ◌*◌, ◌<◌, ◌≤◌, ◌≡◌, true, false, List, [], ◌∷◌, ◌++◌, length, drop, Option as Found}
 use Rattle.basics.specs.Lists.{tab, over}
 use Rattle.image.specs.Stages.{capacity_limit}
 use Rattle.image_rows.specs.Rows.{Row, rows_of}
@@ -10,7 +10,6 @@ use Rattle.memory_layout.specs.Flat.{Flat, flat_of, row_in, Room}
 use Rattle.memory_layout.specs.Store.{holds_store, pages_in}
 use Rattle.memory_rows.specs.Rows.{key_in}
 use Rattle.engine_lookup.specs.Lookup.{Sees}
-use Rattle.engine_lookup.specs.declared.Seen.{Seen}
 
 -- the longest booking, in minutes: two bytes
 abbrev pub longest : ℕ
@@ -44,8 +43,8 @@ pub record OneKey (m : List ℕ) (a b : ℕ) : Type 0 where
 abbrev pub run_rows : Flat → ℕ → ℕ → ℕ → List Row
 run_rows f t a b = rows_of t (live (tab (row_in f) a (b - a)))
 
--- r is the version of the run that the transaction sees, whatever its table
-abbrev pub RunSeen : Flat → ℕ → ℕ → ℕ → Seen → Type 0
+-- r is the row of the run that the transaction sees, whatever its table
+abbrev pub RunSeen : Flat → ℕ → ℕ → ℕ → Found ℕ → Type 0
 RunSeen f tx a b r = (t : ℕ) → Sees f t r (seen_of tx (run_rows f t a b))
 
 -- the run's key, if the version that the transaction sees crosses

@@ -9,8 +9,6 @@ ghost use Rattle.model.specs.Crossing.{crosses};
 ghost use Rattle.memory_layout.specs.Flat.{flat_of, row_in, Room};
 ghost use Rattle.engine_crossing.specs.Crossing.{longest, most_key, NextCrossing, OneKey, RunSeen, RoomForKey, KeyAdded, RunAdded, KeysAsked, RoomForKeys, KeysFound};
 
-use engine_lookup::Seen;
-
 // The longest booking, in minutes, and the largest key.
 const LONGEST: u64 = 65535;
 
@@ -44,14 +42,12 @@ fn next_crossing(m: &[u8], i: usize, e: usize, first: u64, end: u64) -> usize
     requires { Room m.now × (e ≤ length (flat_of m.now).rows) }
     ensures { NextCrossing (flat_of m.now) first end i e result }
 {
-    let mut r = i;
-    while r < e {
+    for r in i..e {
         if crosses_at(m, r, first, end) {
             return r;
         }
-        r += 1;
     }
-    r
+    i.max(e)
 }
 
 // ---- the keys that are looked at
@@ -60,26 +56,20 @@ fn next_crossing(m: &[u8], i: usize, e: usize, first: u64, end: u64) -> usize
 fn as_key(k: u64) -> u32
     ensures { result ≡ min k most_key }
 {
-    if k < MOST_KEY {
-        return k as u32;
-    }
-    MOST_KEY as u32
+    k.min(MOST_KEY) as u32
 }
 
 // The least key of a booking that can have minute `first`: one with a key below it has ended by then.
 fn least_key(first: u64) -> u32
     ensures { result ≡ min (first - (longest - 1)) most_key }
 {
-    if first < LONGEST {
-        return 0;
-    }
-    as_key(first - (LONGEST - 1))
+    as_key(first.saturating_sub(LONGEST - 1))
 }
 
 // ---- a run: the rows from row a up to, not including, row b, all of one key
 
-// The version that the transaction sees of the run.
-fn seen_in_run(m: &[u8], a: usize, b: usize, transaction: u64) -> Seen
+// The row of the run that the transaction sees.
+fn seen_in_run(m: &[u8], a: usize, b: usize, transaction: u64) -> Option<usize>
     requires { OneKey m.now a b }
     ensures { RunSeen (flat_of m.now) transaction a b result }
 {
@@ -93,10 +83,7 @@ fn put_key(out: &mut [u8], n: usize, key: u32)
     requires { RoomForKey n out.old }
     ensures { KeyAdded n key out.old out.new }
 {
-    out[4 * n] = (key / 16777216 % 256) as u8;
-    out[4 * n + 1] = (key / 65536 % 256) as u8;
-    out[4 * n + 2] = (key / 256 % 256) as u8;
-    out[4 * n + 3] = (key % 256) as u8;
+    out[4 * n..4 * n + 4].copy_from_slice(&key.to_be_bytes());
 }
 
 // The run's key, behind the n keys that out has, if the version that is seen crosses; how many keys there are then.
@@ -113,7 +100,7 @@ fn add_run(
     requires { OneKey m.now a b × RoomForKey n out.old }
     ensures { RunAdded (flat_of m.now) transaction first end a b n result out.old out.new }
 {
-    let Seen::At(k) = seen_in_run(m, a, b, transaction) else {
+    let Some(k) = seen_in_run(m, a, b, transaction) else {
         return n;
     };
     if !crosses_at(m, k, first, end) {

@@ -1,5 +1,5 @@
 -- One row noted, by what the code finds there.
-use Rattle.basics.proofs.Kit.{◌≡◌, refl, sym, ap, ◌∙◌, ⊎_elim, Bool, true, false, [], ◌∷◌, ℕ, ◌+◌, add-one, eq-eqb, ne_eqb, arith}
+use Rattle.basics.proofs.Kit.{◌≡◌, refl, sym, ap, ◌∙◌, ⊎_elim, [], ◌∷◌, ℕ, arith}
 use types.Run.{OneOf}
 use denote.Enum.Declared.{tag_of}
 use Rattle.basics.specs.Basics.{if'◌then◌else◌}
@@ -11,26 +11,8 @@ use Rattle.memory_rows.specs.Rows.{pending_is}
 use Rattle.memory_rows.specs.declared.Pending.{Pending}
 use Rattle.memory_rows.specs.declared.Pending.TheVariants.{Nothing, Adding, Committing, Removing}
 use Rattle.memory_rows.specs.contracts.Pending.{the_type}
-use Rattle.engine_lookup.specs.Lookup.{note_committed, note_tentative, note_owner, note}
+use Rattle.engine_lookup.specs.Lookup.{note_committed, note_owner, note}
 use Rattle.engine_lookup.specs.declared.Visibility.{Visibility}
-
--- the committed version that counts is the first
-module _ (i : ℕ) (l : Visibility) where
-  pub first_committed : l.committed ≡ 0 → record { foreign = l.foreign; own = l.own; committed = i + 1 } ≡ note_committed i l
-  unfolding note_committed if'◌then◌else◌
-  first_committed e = rw (eq-eqb l.committed 0 e, add-one i)
-
-  pub later_committed : (l.committed ≡ 0 → ⊥) → record { foreign = l.foreign; own = l.own; committed = l.committed } ≡ note_committed i l
-  unfolding note_committed if'◌then◌else◌
-  later_committed e = rw (ne_eqb l.committed 0 e)
-
-  pub own_tentative : (b : Bool) → b ≡ true → record { foreign = l.foreign; own = i + 1; committed = l.committed } ≡ note_tentative i b l
-  unfolding note_tentative
-  own_tentative b e = rw (e, note_tentative, add-one i)
-
-  pub foreign_tentative : (b : Bool) → b ≡ false → record { foreign = true; own = l.own; committed = l.committed } ≡ note_tentative i b l
-  unfolding note_tentative
-  foreign_tentative b e = rw (e, note_tentative)
 
 -- a row noted by its pending operation
 abbrev by_pending : ℕ → ℕ → model.Pending → Owner → Visibility → Visibility

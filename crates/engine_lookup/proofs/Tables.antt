@@ -24,7 +24,7 @@ use Rattle.memory_pages.proofs.Ranges.{starts_rise}
 use Rattle.memory_pages.proofs.Spots.{row_from, pages_rise, table_first}
 use Rattle.engine_lookup.specs.Lookup.{Shows, blank, TableRange}
 use Rattle.engine_lookup.specs.declared.Visibility.{Visibility}
-use Rattle.engine_lookup.specs.declared.Range.{Range}
+use Rattle.std.specs.declared.ops.Range.{Range}
 use Rattle.engine_lookup.proofs.Iterations.{along, notes_covered}
 use Rattle.engine_lookup.proofs.Versions.{versions_on, shows_rows}
 use Rattle.engine_lookup.proofs.Searches.{place_covers, last_keys}
@@ -147,7 +147,7 @@ table_range {m} room {t} {a} {b} s u ex ey h =
       inside = h;
     }
 
-module _ {m : List ℕ} (room : Room m) (t tx k : ℕ) (h : t < 8) {r : Range} (g : TableRange (flat_of m) t r) where
+module _ {m : List ℕ} (room : Room m) (t tx k : ℕ) (h : t < 8) {r : Range ℕ} (g : TableRange (flat_of m) t r) where
   rows_of_lem : table_rows (flat_of m) t ≡ tab (row_in (flat_of m)) r.start (r.end - r.start)
   unfolding table_rows
   rows_of_lem =

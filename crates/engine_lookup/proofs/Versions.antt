@@ -1,5 +1,7 @@
 -- The rows noted one after another show the versions of a key among them.
-use Rattle.basics.proofs.Kit.{◌≡◌, refl, sym, ap, ◌∙◌, true, false, ◌&&◌, not, List, [], ◌∷◌, ◌++◌, append_assoc, append-nil, ℕ, suc, ◌+◌, ◌≤◌, ◌<◌, zero, eqb, length, eq-eqb, ne_eqb, arith}
+use Rattle.basics.proofs.Kit.{◌≡◌, refl, sym, ap, ◌∙◌, true, false, ◌&&◌, not, List, [], ◌∷◌, ◌++◌, append_assoc, append-nil, ℕ, suc, ◌+◌, ◌≤◌, ◌<◌, zero, eqb, length, eq-eqb, arith}
+use Rattle.std.specs.Prelude.{Option as Found, Some, None}
+use Rattle.std.specs.Option.{option_or}
 use Rattle.basics.specs.Basics.{if'◌then◌else◌, any, first, last, keep}
 use Rattle.basics.proofs.Facts.{by}
 use Rattle.basics.proofs.Firsts.{first_some}
@@ -13,7 +15,7 @@ use Rattle.basics.proofs.Elements.{keep_cons, keep_past}
 use Rattle.basics.specs.Lists.{tab}
 use Rattle.basics.proofs.Lasts.{any_last_no, any_last_yes, last_new, last_old, first_old, first_new}
 use Rattle.memory_layout.specs.Flat.{Flat, row_in}
-use Rattle.engine_lookup.specs.Lookup.{version, version_at, Shows, blank, note_committed, note_tentative, note_owner, note, notes}
+use Rattle.engine_lookup.specs.Lookup.{version, seen_at, Inside, Shows, blank, note_committed, note_tentative, note_owner, note, notes}
 use Rattle.engine_lookup.specs.declared.Visibility.{Visibility}
 use Rattle.engine_lookup.proofs.Iterations.{along, notes_on, notes_here}
 
@@ -32,28 +34,28 @@ module _ (f : Flat) (t tx i : ℕ) (o : Owner) (eo : (applied (row_in f i)).owne
   unfolding is_foreign version
   foreign_is = ap (λ (z : Owner). is_tentative z && not (is_by tx z)) eo
 
-committed_place : (f : Flat) (t i h : ℕ) (vs : List Row) → is_committed (version f t i) ≡ true → version_at f t h ≡ first is_committed vs
-    → version_at f t (if' eqb h 0 then suc i else h) ≡ first is_committed (vs ++ version f t i ∷ [])
-unfolding version_at if'◌then◌else◌
-committed_place f t i zero vs e q = sym (first_new is_committed (version f t i) e vs (sym q))
-committed_place f t i (suc h) vs e q = rw (ne_eqb (suc h) 0 (λ z. omega arith)) (sym (first_some is_committed vs (version f t i ∷ []) (version f t h) (sym q)))
+committed_row : (f : Flat) (t i : ℕ) (h : Found ℕ) (vs : List Row) → is_committed (version f t i) ≡ true → seen_at f t h ≡ first is_committed vs
+    → seen_at f t (option_or h (Some i)) ≡ first is_committed (vs ++ version f t i ∷ [])
+unfolding seen_at
+committed_row f t i None vs e q = sym (first_new is_committed (version f t i) e vs (sym q))
+committed_row f t i (Some h) vs e q = sym (first_some is_committed vs (version f t i ∷ []) (version f t h) (sym q))
 
-committed_inside : (i h n : ℕ) → i < n → h ≤ n → (if' eqb h 0 then suc i else h) ≤ n
-unfolding if'◌then◌else◌
-committed_inside i zero n a b = a
-committed_inside i (suc h) n a b = rw (ne_eqb (suc h) 0 (λ z. omega arith)) b
+committed_inside : (f : Flat) (i : ℕ) (h : Found ℕ) → i < length f.rows → Inside f h → Inside f (option_or h (Some i))
+unfolding Inside
+committed_inside f i None a b = a
+committed_inside f i (Some h) a b = b
 
 shows_one : (f : Flat) (t tx i : ℕ) (o : Owner) (vs : List Row) (l : Visibility) → (applied (row_in f i)).owner ≡ o → i < length f.rows → Shows f t tx vs l
     → Shows f t tx (vs ++ version f t i ∷ []) (note_owner tx i o l)
-unfolding note_owner note_committed note_tentative is_tentative is_by version_at if'◌then◌else◌
+unfolding note_owner note_committed note_tentative is_tentative is_by seen_at Inside
 shows_one f t tx i committed vs l eo h s =
     let x : Row = version f t i in
     record {
       others = s.others ∙ sym (any_last_no (is_foreign tx) x (foreign_is f t tx i committed eo) vs);
       last_own = s.last_own ∙ sym (last_old (is_own tx) x (own_is f t tx i committed eo) vs);
-      first_committed = committed_place f t i l.committed vs (committed_is f t tx i committed eo) s.first_committed;
+      first_committed = committed_row f t i l.committed vs (committed_is f t tx i committed eo) s.first_committed;
       own_in = s.own_in;
-      committed_in = committed_inside i l.committed (length f.rows) h s.committed_in;
+      committed_in = committed_inside f i l.committed h s.committed_in;
     }
 shows_one f t tx i (tentative u w) vs l eo h s =
     let x : Row = version f t i in
@@ -141,8 +143,8 @@ shows_run f t tx k (suc n) i vs l b s =
 
 -- nothing looked at, nothing seen
 shows_none : (f : Flat) (t tx : ℕ) → Shows f t tx [] blank
-unfolding any last first version_at
-shows_none f t tx = record { others = refl; last_own = refl; first_committed = refl; own_in = omega arith; committed_in = omega arith }
+unfolding any last first seen_at Inside
+shows_none f t tx = record { others = refl; last_own = refl; first_committed = refl; own_in = tt; committed_in = tt }
 
 pub shows_rows : (f : Flat) (t tx k n i : ℕ) → i + n ≤ length f.rows
     → Shows f t tx (versions_on t k (tab (row_in f) i n)) (along f tx k i n blank)

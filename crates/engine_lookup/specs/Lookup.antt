@@ -1,5 +1,7 @@
 -- What a transaction finds of a key, by the places of rows.
-use Rattle.std.specs.Prelude.{◌≡◌, Bool, true, false, List, [], ◌∷◌, ℕ, zero, suc, ◌+◌, ◌≤◌, ◌<◌, length, eqb}
+use Rattle.std.specs.Prelude.{◌≡◌, Bool, true, false, List, [], ◌∷◌, ℕ, suc, ◌+◌, ◌≤◌, ◌<◌, length, eqb, Option as Found, Some, None}
+use Rattle.std.specs.Option.{option_or}
+use Rattle.std.specs.declared.ops.Range.{Range}
 use Rattle.std.proofs.Math.Option.{Option, none, some}
 use Rattle.basics.specs.Basics.{if'◌then◌else◌, any, first, last}
 use Rattle.block_forms.specs.Tuple.{Owner, committed, tentative}
@@ -11,42 +13,44 @@ use Rattle.memory_layout.specs.Flat.{Flat, row_in}
 use Rattle.memory_layout.specs.Store.{pages_in}
 use Rattle.memory_pages.specs.Spots.{table_row, place_in}
 use Rattle.engine_lookup.specs.declared.Visibility.{Visibility}
-use Rattle.engine_lookup.specs.declared.Seen.{Seen}
-use Rattle.engine_lookup.specs.declared.Seen.TheVariants.{At, Nothing}
 use Rattle.engine_lookup.specs.declared.Spot.{Spot}
-use Rattle.engine_lookup.specs.declared.Range.{Range}
 
 -- row i as a version of table t, its pending operation taken as done
 unfoldable pub version : Flat → ℕ → ℕ → Row
 version f t i = (t, applied (row_in f i))
 
--- 1 + the row's place, 0 for none
-unfoldable pub version_at : Flat → ℕ → ℕ → Option Row
-version_at f t zero = none
-version_at f t (suc i) = some (version f t i)
+-- the version in the row that was found, if one was
+unfoldable pub seen_at : Flat → ℕ → Found ℕ → Option Row
+seen_at f t (Some i) = some (version f t i)
+seen_at f t None = none
+
+-- the row that was found is there
+unfoldable pub Inside : Flat → Found ℕ → Type 0
+Inside f (Some i) = i < length f.rows
+Inside f None = Unit {0}
 
 -- l is what there is of a key of table t with the versions vs
 pub record Shows (f : Flat) (t tx : ℕ) (vs : List Row) (l : Visibility) : Type 0 where
   pub others : l.foreign ≡ any (is_foreign tx) vs
-  pub last_own : version_at f t l.own ≡ last (is_own tx) vs
-  pub first_committed : version_at f t l.committed ≡ first is_committed vs
-  pub own_in : l.own ≤ length f.rows
-  pub committed_in : l.committed ≤ length f.rows
+  pub last_own : seen_at f t l.own ≡ last (is_own tx) vs
+  pub first_committed : seen_at f t l.committed ≡ first is_committed vs
+  pub own_in : Inside f l.own
+  pub committed_in : Inside f l.committed
 
 -- ---- what there is of a key, row by row
 
 -- nothing seen yet
 abbrev pub blank : Visibility
-blank = record { foreign = false; own = 0; committed = 0 }
+blank = record { foreign = false; own = None; committed = None }
 
 -- a committed version more, at row i
 unfoldable pub note_committed : ℕ → Visibility → Visibility
-note_committed i l = record { foreign = l.foreign; own = l.own; committed = if' eqb l.committed 0 then suc i else l.committed }
+note_committed i l = record l { committed = option_or l.committed (Some i) }
 
 -- a tentative version more, the transaction's own or not
 unfoldable pub note_tentative : ℕ → Bool → Visibility → Visibility
-note_tentative i true l = record { foreign = l.foreign; own = suc i; committed = l.committed }
-note_tentative i false l = record { foreign = true; own = l.own; committed = l.committed }
+note_tentative i true l = record l { own = Some i }
+note_tentative i false l = record l { foreign = true }
 
 -- one version more, at row i, of this owner
 unfoldable pub note_owner : ℕ → ℕ → Owner → Visibility → Visibility
@@ -64,39 +68,24 @@ notes tx k i (h ∷ hs) l = notes tx k (suc i) hs (if' eqb h.tuple.key k then no
 
 -- ---- what is seen
 
--- the version that a place stands for
-unfoldable pub seen_at : Flat → ℕ → Seen → Option Row
-seen_at f t (At i) = some (version f t i)
-seen_at f t Nothing = none
-
--- a place is that of a row
-unfoldable pub Inside : Flat → Seen → Type 0
-Inside f (At i) = i < length f.rows
-Inside f Nothing = Unit {0}
-
--- 1 + a place, 0 for none
-unfoldable pub place_of : ℕ → Seen
-place_of zero = Nothing
-place_of (suc i) = At i
-
 -- the own newest version, unless it is a delete mark; without one the committed version
-unfoldable pub picked_at : Flat → ℕ → ℕ → Seen
-picked_at f zero h = place_of h
-picked_at f (suc i) h = if' (row_in f i).tuple.mark then Nothing else At i
+unfoldable pub picked_at : Flat → Found ℕ → Found ℕ → Found ℕ
+picked_at f None h = h
+picked_at f (Some i) h = if' (row_in f i).tuple.mark then None else Some i
 
--- the version that the two places found give
-unfoldable pub picked : Flat → Visibility → Seen
+-- the row that the two rows found give
+unfoldable pub picked : Flat → Visibility → Found ℕ
 picked f l = picked_at f l.own l.committed
 
--- the place found stands for the version that is seen
-pub record Sees (f : Flat) (t : ℕ) (r : Seen) (o : Option Row) : Type 0 where
+-- the row found has the version that is seen
+pub record Sees (f : Flat) (t : ℕ) (r : Found ℕ) (o : Option Row) : Type 0 where
   pub means : seen_at f t r ≡ o
   pub inside : Inside f r
 
 -- ---- the rows of a table
 
 -- the range is that of table t, and its rows are there
-pub record TableRange (f : Flat) (t : ℕ) (r : Range) : Type 0 where
+pub record TableRange (f : Flat) (t : ℕ) (r : Range ℕ) : Type 0 where
   pub start : r.start ≡ table_row f t
   pub end : r.end ≡ table_row f (t + 1)
   pub order : r.start ≤ r.end

@@ -3,32 +3,25 @@
 #![tactic(auto)]
 
 ghost use Rattle.std.specs.Prelude.{◌≡◌, true, ◌-◌, ◌≤◌, ◌<◌, length};
-ghost use Rattle.image.specs.Stages.{capacity_limit};
 ghost use Rattle.model.specs.Sight.{versions, seen};
 ghost use Rattle.basics.specs.Lists.{tab};
 ghost use Rattle.memory_layout.specs.Flat.{flat_of, row_in, Room};
 ghost use Rattle.memory_layout.specs.Elements.{RowRange};
 ghost use Rattle.memory_layout.specs.Store.{holds_store, pages_in, store_of};
 ghost use Rattle.block_forms.specs.Bytes.{owner_is};
-ghost use Rattle.engine_lookup.specs.Lookup.{Shows, blank, note_committed, note_tentative, note_owner, note, notes, picked, Sees, TableRange, Spots};
+ghost use Rattle.engine_lookup.specs.Lookup.{Inside, Shows, blank, note_committed, note_tentative, note_owner, note, notes, picked, Sees, TableRange, Spots};
 
 use block_forms::Owner;
 use memory_rows::Pending;
+use std::ops::Range;
 
-// What there is of a key. foreign: a version of another open transaction; own: 1 + the row of the last own version, 0 if there is
-// none; committed: 1 + the row of the first committed version, 0 if there is none.
+// What there is of a key: whether another open transaction has a version, the row of the last own version, and that of the first
+// committed one.
 #[derive(Clone, Copy)]
 pub struct Visibility {
     pub foreign: bool,
-    pub own: usize,
-    pub committed: usize,
-}
-
-// The row of the version that is seen.
-#[derive(Clone, Copy)]
-pub enum Seen {
-    At(usize),
-    Nothing,
+    pub own: Option<usize>,
+    pub committed: Option<usize>,
 }
 
 // What there is of a key, and the row before which a new tuple with this key goes.
@@ -38,44 +31,37 @@ pub struct Spot {
     pub at: usize,
 }
 
-// The rows from start up to, not including, end.
-#[derive(Clone, Copy)]
-struct Range {
-    start: usize,
-    end: usize,
-}
-
 // ---- row by row
 
 // A committed version at row i: the first one counts.
 fn note_committed(i: usize, visibility: Visibility) -> Visibility
-    requires { i < capacity_limit }
     ensures { result ≡ note_committed i visibility }
 {
-    let mut l = visibility;
-    if l.committed == 0 {
-        l.committed = i + 1;
+    Visibility {
+        committed: visibility.committed.or(Some(i)),
+        ..visibility
     }
-    l
 }
 
 // A tentative version at row i, the transaction's own or another's: the last own one counts.
 fn note_tentative(i: usize, own: bool, visibility: Visibility) -> Visibility
-    requires { i < capacity_limit }
     ensures { result ≡ note_tentative i own visibility }
 {
-    let mut l = visibility;
     if own {
-        l.own = i + 1;
-        return l;
+        Visibility {
+            own: Some(i),
+            ..visibility
+        }
+    } else {
+        Visibility {
+            foreign: true,
+            ..visibility
+        }
     }
-    l.foreign = true;
-    l
 }
 
 // A version of this owner at row i.
 fn note_owner(i: usize, owner: Owner, transaction: u64, visibility: Visibility) -> Visibility
-    requires { i < capacity_limit }
     ensures { result ≡ note_owner transaction i (owner_is owner) visibility }
 {
     match owner {
@@ -112,12 +98,10 @@ pub fn note_rows(
     ensures { result ≡ notes transaction key from (tab (row_in (flat_of m.now)) from (to - from)) visibility }
 {
     let mut l = visibility;
-    let mut i = from;
-    while i < to {
+    for i in from..to {
         if memory_rows::key_at(m, i) == key {
             l = note_row(m, i, transaction, l);
         }
-        i += 1;
     }
     l
 }
@@ -128,8 +112,8 @@ pub fn no_version() -> Visibility
 {
     Visibility {
         foreign: false,
-        own: 0,
-        committed: 0,
+        own: None,
+        committed: None,
     }
 }
 
@@ -157,17 +141,14 @@ fn search_span(m: &[u8], s: usize, e: usize, transaction: u64, key: u32) -> Visi
 
 // ---- a key of a table
 
-fn table_rows(m: &[u8], table: u8) -> Range
+fn table_rows(m: &[u8], table: u8) -> Range<usize>
     requires { Room m.now × (table < 8) }
     ensures { TableRange (flat_of m.now) table result }
 {
     let t = table as usize;
     let p = memory_pages::table_start(m, t);
     let q = memory_pages::table_start(m, t + 1);
-    Range {
-        start: memory_pages::start_of(m, p),
-        end: memory_pages::start_of(m, q),
-    }
+    memory_pages::start_of(m, p)..memory_pages::start_of(m, q)
 }
 
 pub fn find_versions(m: &[u8], table: u8, transaction: u64, key: u32) -> Visibility
@@ -188,34 +169,29 @@ pub fn find_place(m: &[u8], table: u8, transaction: u64, key: u32) -> Spot
     let at = memory_rows::last_up_to(m, t.start, t.end, key);
     Spot {
         visibility: search_range(m, t.start, at, transaction, key),
-        at: at,
+        at,
     }
 }
 
 // ---- what is seen
 
-// What is seen, by what there is of the key: the own newest version, unless it is a delete mark; without one the committed version.
-pub fn pick(m: &[u8], visibility: Visibility) -> Seen
-    requires { Room m.now × (visibility.own ≤ length (flat_of m.now).rows) }
+// The row that is seen, by what there is of the key: the own newest version, unless it is a delete mark; without one the committed version.
+pub fn pick(m: &[u8], visibility: Visibility) -> Option<usize>
+    requires { Room m.now × Inside (flat_of m.now) visibility.own }
     ensures { result ≡ picked (flat_of m.now) visibility }
 {
-    let own = visibility.own;
-    let committed = visibility.committed;
-    if own != 0 {
-        let i = own - 1;
-        if memory_rows::mark_at(m, i) {
-            return Seen::Nothing;
-        }
-        return Seen::At(i);
+    let Some(i) = visibility.own else {
+        return visibility.committed;
+    };
+    if memory_rows::mark_at(m, i) {
+        None
+    } else {
+        Some(i)
     }
-    if committed == 0 {
-        return Seen::Nothing;
-    }
-    Seen::At(committed - 1)
 }
 
-// The version of a key that the transaction sees.
-pub fn seen_by(m: &[u8], table: u8, transaction: u64, key: u32) -> Seen
+// The row of the version of a key that the transaction sees.
+pub fn seen_by(m: &[u8], table: u8, transaction: u64, key: u32) -> Option<usize>
     requires { (holds_store m.now ≡ true) × (table < 8) }
     ensures { Sees (flat_of m.now) table result (seen transaction table key (store_of (flat_of m.now))) }
 {

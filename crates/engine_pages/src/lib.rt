@@ -62,8 +62,7 @@ fn join_after(m: &mut [u8], p: usize) -> bool
     requires { There m.old p }
     ensures { Tries m.old m.new result (settled_next p (pages_of m.old)) (λ rest. swapped p rest (pages_of m.old)) }
 {
-    let c = memory_layout::get_counts(m);
-    let n = c.pages as usize;
+    let n = memory_layout::get_counts(m).pages as usize;
     if n <= p + 1 {
         return false;
     }
@@ -79,10 +78,7 @@ fn join(m: &mut [u8], p: usize) -> bool
     requires { There m.old p }
     ensures { Tries m.old m.new result (settled_at p (pages_of m.old)) (λ rest. swapped p rest (pages_of m.old)) }
 {
-    if join_before(m, p) {
-        return true;
-    }
-    join_after(m, p)
+    join_before(m, p) || join_after(m, p)
 }
 
 // ---- splitting
@@ -226,12 +222,9 @@ pub fn freeze(m: &mut [u8])
     requires { holds_store m.old ≡ true }
     ensures { HoldsNow m.old m.new (with_pages (store_of (flat_of m.old)) (map freeze (pages_of m.old))) }
 {
-    let c = memory_layout::get_counts(m);
-    let n = c.pages as usize;
-    let mut p: usize = 0;
-    while p < n {
+    let n = memory_layout::get_counts(m).pages as usize;
+    for p in 0..n {
         freeze_page(m, p);
-        p += 1;
     }
 }
 
@@ -242,12 +235,11 @@ fn has_pending(m: &[u8], p: usize) -> bool
     requires { There m.now p }
     ensures { result ≡ any has_pending (tuples_at m.now p) }
 {
+    let s = memory_pages::start_of(m, p);
     let e = memory_pages::start_of(m, p + 1);
     let mut hit = false;
-    let mut i = memory_pages::start_of(m, p);
-    while i < e {
-        hit = hit | memory_rows::is_pending(m, i);
-        i += 1;
+    for i in s..e {
+        hit |= memory_rows::is_pending(m, i);
     }
     hit
 }
@@ -259,8 +251,6 @@ fn apply_kept(m: &mut [u8], i: usize)
 {
     if memory_rows::is_committing(m, i) {
         memory_rows::commit_row(m, i);
-        memory_rows::set_pending(m, i, Pending::Nothing);
-        return;
     }
     memory_rows::set_pending(m, i, Pending::Nothing);
 }
@@ -286,10 +276,8 @@ fn apply_pending_rows(m: &mut [u8], p: usize) -> usize
     let s = memory_pages::start_of(m, p);
     let n = count_at(m, p);
     let mut i = s;
-    let mut left = n;
-    while 0 < left {
+    for _ in 0..n {
         i += apply_pending_row(m, p, i);
-        left -= 1;
     }
     i - s
 }

@@ -17,10 +17,8 @@ pub fn rows_size(m: &[u8], s: usize, e: usize) -> usize
     ensures { result ≡ sum held_size (rows_from m.now s e) }
 {
     let mut all: u32 = 0;
-    let mut i = s;
-    while i < e {
+    for i in s..e {
         all += memory_rows::size_at(m, i) as u32;
-        i += 1;
     }
     all as usize
 }
@@ -33,11 +31,7 @@ pub fn fit_block(m: &[u8], s: usize, e: usize) -> bool
     requires { RowRange m.now s e }
     ensures { result ≡ leb (sum held_size (rows_from m.now s e)) record_space }
 {
-    if e - s <= SURELY_FIT {
-        return true;
-    }
-    let size = rows_size(m, s, e);
-    PageLayout::fits(size)
+    e - s <= SURELY_FIT || PageLayout::fits(rows_size(m, s, e))
 }
 
 // Whether the rows from s up to e, those of two pages, are small enough for one page. Adding stops as soon as the sum is too large.
@@ -46,14 +40,12 @@ pub fn small_enough(m: &[u8], s: usize, e: usize) -> bool
     ensures { result ≡ leb (sum held_size (rows_from m.now s e)) join_sum }
 {
     let mut all: usize = 0;
-    let mut i = s;
-    while i < e {
+    for i in s..e {
         let w = memory_rows::size_at(m, i);
         if !PageLayout::joins(all, w) {
             return false;
         }
         all += w;
-        i += 1;
     }
     true
 }

@@ -16,12 +16,12 @@ fn directory_number(m: &[u8], i: usize) -> u32
     requires { Room m.now }
     ensures { result ≡ get_or (flat_of m.now).directories i 0 }
 {
-    let c = memory_layout::get_counts(m);
-    let n = c.directories as usize;
+    let n = memory_layout::get_counts(m).directories as usize;
     if i < n {
-        return memory_layout::get_directory(m, i);
+        memory_layout::get_directory(m, i)
+    } else {
+        0
     }
-    0
 }
 
 // The header to come, as the memory has it.
@@ -54,10 +54,8 @@ fn named_from(m: &[u8], first: usize, count: usize) -> [u16; block_forms::ENTRIE
     ensures { take count result ≡ take count (drop first (flat_of m.now).named) }
 {
     let mut entries = [0u16; block_forms::ENTRIES_PER_BLOCK];
-    let mut i: usize = 0;
-    while i < count {
+    for i in 0..count {
         entries[i] = memory_layout::get_named(m, first + i);
-        i += 1;
     }
     entries
 }
@@ -69,10 +67,7 @@ pub fn write_directory(out: &mut [u8], m: &[u8], k: usize, level: u32)
 {
     let c = memory_layout::get_counts(m);
     let first = block_forms::ENTRIES_PER_BLOCK * k;
-    let mut count = c.named as usize - first;
-    if block_forms::ENTRIES_PER_BLOCK < count {
-        count = block_forms::ENTRIES_PER_BLOCK;
-    }
+    let count = (c.named as usize - first).min(block_forms::ENTRIES_PER_BLOCK);
     let entries = named_from(m, first, count);
     block_forms::write_directory(out, level, &entries[0..count]);
 }
@@ -93,11 +88,11 @@ fn record_at(m: &[u8], i: usize) -> block_forms::Record
     ensures { Spells m.now result (row_in (flat_of m.now) i).tuple }
 {
     let p = memory_rows::payload_at(m, i);
-    let o = memory_rows::owner_at(m, i);
+    let owner = memory_rows::owner_at(m, i);
     block_forms::Record {
         key: memory_rows::key_at(m, i),
         number: memory_rows::number_at(m, i),
-        owner: o,
+        owner,
         mark: memory_rows::mark_at(m, i),
         start: p.start,
         len: p.len,
@@ -118,19 +113,14 @@ fn measure(m: &[u8], s: usize, e: usize) -> Shown
 {
     let mut count: u32 = 0;
     let mut bytes: usize = 0;
-    let mut i = s;
-    while i < e {
+    for i in s..e {
         let size = memory_rows::size_at(m, i);
         if is_shown(m, i) {
             count += 1;
             bytes += size;
         }
-        i += 1;
     }
-    Shown {
-        count: count,
-        bytes: bytes,
-    }
+    Shown { count, bytes }
 }
 
 // The page of what these rows show, in a block of zeros: its head, then record after record.
@@ -148,13 +138,11 @@ fn fill_page(
 {
     block_forms::begin_page(block, table as u32, w.count, w.bytes as u32, level);
     let mut at: usize = block_forms::PageLayout::HEAD_SIZE;
-    let mut i = s;
-    while i < e {
+    for i in s..e {
         if is_shown(m, i) {
             let r = record_at(m, i);
             at = block_forms::append(block, at, r, m);
         }
-        i += 1;
     }
 }
 

@@ -1,17 +1,18 @@
 -- The pages of an image one after another, their rows in columns; and what the tests make of them.
+use Rattle.std.specs.Prelude.{Some, None, Option as Answer}
 use Rattle.block_forms.specs.Limits.{block_size}
-use Rattle.basics.proofs.Kit.{◌≡◌, refl, sym, ap, ◌∙◌, Bool, true, false, ◌&&◌, some, none, Option, Option·map, List, [], ◌∷◌, ◌++◌, append_assoc, append-nil, map, ℕ, suc, ◌+◌, ◌*◌, ◌≤◌}
-use Rattle.basics.proofs.Kit.{◌<◌, ◌/◌, ◌-◌, leb, ltb, length, take, drop, get_or, length-append, length-take, length-drop, drop_of_length-le, le-leb, leb-true, lt-leb, leb-false}
+use Rattle.basics.proofs.Kit.{◌≡◌, refl, sym, ap, ◌∙◌, subst, Bool, true, false, ◌&&◌, some, none, Option, Option·map, List, [], ◌∷◌, ◌++◌, append_assoc, append-nil, map, ℕ, suc, ◌+◌, ◌*◌, ◌≤◌}
+use Rattle.basics.proofs.Kit.{◌<◌, ◌/◌, ◌-◌, leb, ltb, length, drop, get_or, length-append, le-leb, leb-true, lt-leb, leb-false}
 use Rattle.basics.proofs.Kit.{ltb-true, arith}
 use Rattle.basics.specs.Basics.{if'◌then◌else◌, all, every}
 use Rattle.basics.proofs.Facts.{by, by-option, never, and_true, clash}
 use Rattle.basics.proofs.Elements.{some_eq}
 use Rattle.basics.proofs.Lists.{map_append, all_get, all_join, behind_none, behind_two}
-use Rattle.basics.specs.Lists.{over}
 use Rattle.block_forms.specs.Tuple.{Tuple}
 use Rattle.block_forms.specs.Block.{PageBlock, as_page}
 use Rattle.block_forms.specs.Decode.{page_tuples, decode_block}
 use Rattle.block_forms.specs.declared.Header.{Header}
+use Rattle.block_reader.specs.declared.PageHead.{PageHead}
 use Rattle.block_reader.proofs.Walk.{walk_start}
 use Rattle.image_rows.specs.Rows.{Row, rows_of, mark_ok, rows_ok}
 use Rattle.image_rows.specs.Columns.{bare, rows_in, columns_ok}
@@ -19,8 +20,6 @@ use Rattle.basics.proofs.Ands.{and_yes, and_no}
 use Rattle.basics.proofs.Iterations.{drop_iteration, drop_end}
 use Rattle.image_rows.proofs.Bare.{columns_bare, rows_tests}
 use Rattle.image_page.specs.Page.{good_page}
-use Rattle.image_page.specs.declared.GoodPage.{GoodPage}
-use Rattle.image_page.specs.declared.GoodPage.TheVariants.{Good, Bad}
 use Rattle.image.specs.View.{View, view, block_at, block_count}
 use Rattle.image.specs.Stages.{refuses, holds, block_ok, StoredPage, stored_page, page_ok, add_page, read_pages, rows_of_pages, tested_pages, page_test}
 use Rattle.image.specs.Answers.{accepts}
@@ -41,46 +40,37 @@ within xs es i e h =
 
 -- ---- a good page
 
-pub record Goods (l room t n : ℕ) (o : Option PageBlock) : Type 0 where
-  pub level : ℕ
+pub record Goods (l room : ℕ) (p : PageHead) (o : Option PageBlock) : Type 0 where
   pub tuples : List Tuple
-  pub is : o ≡ some (record { table = t; level = level; tuples = tuples })
-  pub right : page_ok l (record { table = t; level = level; tuples = tuples }) ≡ true
-  pub count : length tuples ≡ n
-  pub room_left : n ≤ room
-  pub marks : all mark_ok (rows_of t tuples) ≡ true
+  pub is : o ≡ some (record { table = p.table; level = p.level; tuples = tuples })
+  pub right : page_ok l (record { table = p.table; level = p.level; tuples = tuples }) ≡ true
+  pub count : length tuples ≡ p.count
+  pub room_left : p.count ≤ room
+  pub marks : all mark_ok (rows_of p.table tuples) ≡ true
 
-no-good {ℓ} : {X : Type ℓ} {t n : ℕ} → Bad ≡ Good t n → X
+no-good {ℓ} : {X : Type ℓ} {p : PageHead} → None ≡ Some p → X
 no-good e = clash cc
 
-pub goods : (l room : ℕ) (o : Option PageBlock) {t n : ℕ} → good_page l room o ≡ Good t n → Goods l room t n o
+pub goods : (l room : ℕ) (o : Option PageBlock) {p : PageHead} → good_page l room o ≡ Some p → Goods l room p o
 unfolding good_page if'◌then◌else◌ every
 goods l room none e = no-good e
-goods l room (some p) {t} {n} e =
-    by (page_ok l p && (leb (length p.tuples) room && (all mark_ok (rows_of p.table p.tuples) && true)))
+goods l room (some b) {p} e =
+    by (page_ok l b && (leb (length b.tuples) room && (all mark_ok (rows_of b.table b.tuples) && true)))
     (λ h.
-    let g : Good p.table (length p.tuples) ≡ Good t n = rw h at e in
-    let et : p.table ≡ t = cc in
-    let en : length p.tuples ≡ n = cc in
-    let a = and_true (page_ok l p) _ h in
-    let b = and_true (leb (length p.tuples) room) _ a.1 in
-    let m = and_true (all mark_ok (rows_of p.table p.tuples)) true b.1 in
-    record {
-      level = p.level;
-      tuples = p.tuples;
-      is = λ i. some (record { table = et i; level = p.level; tuples = p.tuples });
-      right = rw (← et) a.0;
-      count = en;
-      room_left = rw (← en) (leb-true (length p.tuples) room b.0);
-      marks = rw (← et) m.0;
-    })
+    let g : Some (record { table = b.table; count = length b.tuples; level = b.level }) ≡ Some p = rw h at e in
+    let q : record { table = b.table; count = length b.tuples; level = b.level } ≡ p = cc in
+    let x = and_true (page_ok l b) _ h in
+    let y = and_true (leb (length b.tuples) room) _ x.1 in
+    let z = and_true (all mark_ok (rows_of b.table b.tuples)) true y.1 in
+    let G : PageHead → Type 0 = λ k. Goods l room k (some b) in
+    subst G q (record { tuples = b.tuples; is = refl; right = x.0; count = refl; room_left = leb-true (length b.tuples) room y.0; marks = z.0 }))
     (λ h. no-good (rw h at e))
 
 -- a good page is one more
-page_added : (l room t n e : ℕ) (o : Option PageBlock) (g : Goods l room t n o) (more : Option (List StoredPage))
-    → add_page l e o more ≡ Option·map (λ ps. record { block = e; table = t; tuples = g.tuples } ∷ ps) more
+page_added : (l room e : ℕ) (p : PageHead) (o : Option PageBlock) (g : Goods l room p o) (more : Option (List StoredPage))
+    → add_page l e o more ≡ Option·map (λ ps. record { block = e; table = p.table; tuples = g.tuples } ∷ ps) more
 unfolding add_page if'◌then◌else◌
-page_added l room t n e o g more = rw (g.is, g.right)
+page_added l room e p o g more = rw (g.is, g.right)
 
 -- the first of some pages, and those after it
 pub record First (l e : ℕ) (o : Option PageBlock) (more : Option (List StoredPage)) (ps : List StoredPage) : Type 0 where
@@ -120,7 +110,7 @@ mark_wrong cap next rs e = rows_tests cap next rs ∙ rw (e, and_no, and_no)
 
 -- no list of pages that goes on with it passes: it has too many tuples, or a wrong delete mark
 module _ (l room cap next e : ℕ) (done : List StoredPage) (full : length (rows_of_pages done) + room ≡ cap) where
-  bad_rows : (p : PageBlock) → good_page l room (some p) ≡ Bad → page_ok l p ≡ true → (qs : List StoredPage) → rows_ok cap next (rows_of_pages (done ++ (stored_page e p ∷ qs))) ≡ false
+  bad_rows : (p : PageBlock) → good_page l room (some p) ≡ None → page_ok l p ≡ true → (qs : List StoredPage) → rows_ok cap next (rows_of_pages (done ++ (stored_page e p ∷ qs))) ≡ false
   unfolding rows_of_pages good_page if'◌then◌else◌ every
   bad_rows p bad right qs =
       let own : List Row = rows_of p.table p.tuples in
@@ -128,7 +118,7 @@ module _ (l room cap next e : ℕ) (done : List StoredPage) (full : length (rows
       let rs : rows_of_pages ps ≡ rows_of_pages done ++ (own ++ rows_of_pages qs) = rows_pages done (stored_page e p ∷ qs) in
       by (leb (length p.tuples) room)
       (λ a. by (all mark_ok own)
-      (λ b. let z : Good p.table (length p.tuples) ≡ Bad = rw (right, a, b) at bad in no-good (sym z))
+      (λ b. let z : Some (record { table = p.table; count = length p.tuples; level = p.level }) ≡ None = rw (right, a, b) at bad in no-good (sym z))
       (λ b. mark_wrong cap next (rows_of_pages ps)
       (ap (all mark_ok) rs ∙ rw (all_join mark_ok (rows_of_pages done) (own ++ rows_of_pages qs), all_join mark_ok own (rows_of_pages qs), b, and_no))))
       (λ a.
@@ -138,7 +128,7 @@ module _ (l room cap next e : ℕ) (done : List StoredPage) (full : length (rows
       let k = length_rows p.table p.tuples in
       too_many cap next (rows_of_pages ps) (omega arith))
 
-  bad_page : (o : Option PageBlock) → good_page l room o ≡ Bad → (more : Option (List StoredPage)) (ps : List StoredPage)
+  bad_page : (o : Option PageBlock) → good_page l room o ≡ None → (more : Option (List StoredPage)) (ps : List StoredPage)
       → Option·map (λ qs. done ++ qs) (add_page l e o more) ≡ some ps → rows_ok cap next (rows_of_pages ps) ≡ false
   bad_page o bad more ps q =
       by-option (add_page l e o more)
@@ -175,19 +165,19 @@ module _ {v : View} {h : Header} {es : List ℕ} {i to : ℕ} {columns : List Ro
   unfolding read_pages
   next l = ap (read_pages v h.level) (drop_iteration es i l)
 
-  pub collecting_iteration : {t n : ℕ} {more : List Row} → i < length es → (g : Goods h.level (h.capacity - to) t n (as_page (v (get_or es i 0))))
-      → more ≡ columns ++ map bare (rows_of t g.tuples) → Collecting v h es (i + 1) (to + n) more
-  collecting_iteration {t} {n} l g m =
-      let p : StoredPage = record { block = get_or es i 0; table = t; tuples = g.tuples } in
+  pub collecting_iteration : {q : PageHead} {more : List Row} → i < length es → (g : Goods h.level (h.capacity - to) q (as_page (v (get_or es i 0))))
+      → more ≡ columns ++ map bare (rows_of q.table g.tuples) → Collecting v h es (i + 1) (to + q.count) more
+  collecting_iteration {q} {more} l g m =
+      let p : StoredPage = record { block = get_or es i 0; table = q.table; tuples = g.tuples } in
       let rs = one_more a.done p in
-      let q = next l ∙ page_added h.level (h.capacity - to) t n (get_or es i 0) _ g _ in
+      let k = next l ∙ page_added h.level (h.capacity - to) (get_or es i 0) q _ g _ in
       record {
         done = a.done ++ (p ∷ []);
         room = omega (arith, a.room, g.room_left);
-        count = ap length rs ∙ length-append (rows_of_pages a.done) (rows_of t g.tuples) ∙ omega (arith, a.count, length_rows t g.tuples, g.count);
+        count = ap length rs ∙ length-append (rows_of_pages a.done) (rows_of q.table g.tuples) ∙ omega (arith, a.count, length_rows q.table g.tuples, g.count);
         rows = m ∙ rw (a.rows, rs, map_append);
         marks = ap (all mark_ok) rs ∙ rw (all_join, a.marks, g.marks);
-        rest = a.rest ∙ ap (Option·map (λ ps. a.done ++ ps)) q ∙ behind_two a.done (p ∷ []) (read_pages v h.level (drop (i + 1) es));
+        rest = a.rest ∙ ap (Option·map (λ ps. a.done ++ ps)) k ∙ behind_two a.done (p ∷ []) (read_pages v h.level (drop (i + 1) es));
       }
 
   -- all pages are read
@@ -199,7 +189,7 @@ module _ {v : View} {h : Header} {es : List ℕ} {i to : ℕ} {columns : List Ro
       ap (columns_ok h.next) a.rows ∙ columns_bare h.next rs
       ∙ sym (rw (q, rows_tests h.capacity h.next rs, le-leb (length rs) h.capacity (omega (arith, a.count, a.room)), a.marks, and_yes) (accepted _ a.done))
 
-  pub collecting_bad : i < length es → good_page h.level (h.capacity - to) (as_page (v (get_or es i 0))) ≡ Bad → false ≡ accepts (page_test v h es)
+  pub collecting_bad : i < length es → good_page h.level (h.capacity - to) (as_page (v (get_or es i 0))) ≡ None → false ≡ accepts (page_test v h es)
   unfolding page_test tested_pages accepts if'◌then◌else◌
   collecting_bad l bad =
       let f : length (rows_of_pages a.done) + (h.capacity - to) ≡ h.capacity = omega (arith, a.count, a.room) in
@@ -212,20 +202,13 @@ module _ {v : View} {h : Header} {es : List ℕ} {i to : ℕ} {columns : List Ro
 
 -- ---- the block that the code holds
 
-pub whole_copy : (m xs : List ℕ) (k : ℕ) → length m ≡ block_size → block_size * k + block_size ≤ length xs → over m 0 (take block_size (drop (block_size * k) xs)) ≡ block_at xs k
-unfolding over block_at
-whole_copy m xs k l h =
-    let p : length (take block_size (drop (block_size * k) xs)) ≡ block_size = simp (length-take, length-drop) (omega arith) in
-    let q : length m ≤ 0 + length (take block_size (drop (block_size * k) xs)) = omega arith in
-    rw (drop_of_length-le m q) (append-nil (take block_size (drop (block_size * k) xs)))
-
-module _ (xs es : List ℕ) (i : ℕ) {x : ℕ} {bs : List ℕ} (b : bs ≡ block_at xs x) (e : x ≡ get_or es i 0) where
+module _ (xs es : List ℕ) (i : ℕ) {bs : List ℕ} (b : bs ≡ block_at xs (get_or es i 0)) where
   pub seen : decode_block bs ≡ view xs (get_or es i 0)
   unfolding view
-  seen = rw (b, e)
+  seen = rw b
 
-  pub page_here : (l to : ℕ) {cap w : ℕ} {r : GoodPage} → w ≡ cap → r ≡ good_page l (w - to) (as_page (decode_block bs)) → good_page l (cap - to) (as_page (view xs (get_or es i 0))) ≡ r
-  page_here l to c q = rw (← seen, ← c) (sym q)
+  pub page_here : (l room : ℕ) {r : Answer PageHead} → r ≡ good_page l room (as_page (decode_block bs)) → good_page l room (as_page (view xs (get_or es i 0))) ≡ r
+  page_here l room q = rw (← seen) (sym q)
 
-  pub tuples_here : {l room t n : ℕ} (g : Goods l room t n (as_page (view xs (get_or es i 0)))) → page_tuples n bs ≡ some g.tuples
+  pub tuples_here : {l room : ℕ} {p : PageHead} (g : Goods l room p (as_page (view xs (get_or es i 0)))) → page_tuples p.count bs ≡ some g.tuples
   tuples_here g = rw (← g.count) (walk_start bs (ap as_page seen ∙ g.is)).read

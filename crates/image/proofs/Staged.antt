@@ -1,27 +1,26 @@
 -- The stages of the tests, put together.
-use Rattle.basics.proofs.Kit.{◌≡◌, refl, sym, ap, ◌∙◌, Bool, true, false, some, none, Option, List, [], ◌∷◌, ◌++◌, map, ℕ, ◌+◌, ◌*◌, ◌%◌, ◌≤◌, ◌<◌, ◌/◌, ◌-◌}
-use Rattle.basics.proofs.Kit.{length, take, drop, length-append, length-take, length-replicate, take_at, le-leb, lt-leb, eq-eqb, ne_eqb, arith}
+use Rattle.std.specs.Prelude.{Some, None, Option as Answer}
+use Rattle.basics.proofs.Kit.{◌≡◌, refl, sym, ap, ◌∙◌, Bool, true, false, some, none, Option, ◌&&◌, eqb, leb, List, [], ◌∷◌, ◌++◌, map, ℕ, ◌+◌, ◌*◌, ◌%◌, ◌≤◌, ◌/◌, ◌-◌}
+use Rattle.basics.proofs.Kit.{length, take, drop, length-append, length-take, take_at, le-leb, leb-true, eqb-true, eq-eqb, arith}
 use Rattle.basics.specs.Basics.{if'◌then◌else◌, all, every}
 use Rattle.basics.proofs.Facts.{by, by-option, never, lie, and_true, clash}
 use Rattle.basics.proofs.Elements.{some_eq, every_all}
 use Rattle.basics.specs.Lists.{over}
 use Rattle.block_forms.specs.Limits.{entries_per_block, block_limit, block_size}
+use Rattle.block_forms.specs.Spell.{zeros}
 use Rattle.block_forms.specs.Block.{Block, as_header, as_page, as_directory}
 use Rattle.block_forms.specs.Decode.{decode_block}
 use Rattle.block_reader.specs.Answers.{reading}
 use Rattle.block_forms.specs.declared.Header.{Header}
-use Rattle.block_reader.specs.declared.Reading.TheVariants.{IsHeader}
-use Rattle.block_reader.proofs.Answering.{is_header_lem}
+use Rattle.block_reader.specs.declared.Block.TheVariants as read
+use Rattle.block_reader.proofs.Answering.{is_header_lem, no_header}
 use Rattle.image_rows.specs.Rows.{rows_ok}
-use Rattle.basics.proofs.Ands.{and_no}
 use Rattle.image.specs.View.{View, view, block_at, block_count}
 use Rattle.image.specs.Stages.{Stage, refuses, holds, whole_blocks, block_ok, directories_for, numbers_of, directory_blocks, header_ok, header_test, entries_due, add_entries, read_directories}
 use Rattle.image.specs.Stages.{entries_ok, tested_entries, capacity_limit}
 use Rattle.image.specs.Stages.{directory_test, StoredPage, read_pages, rows_of_pages, tested_pages, page_test}
 use Rattle.image.specs.Whole.{header_stage, pages_below, pages_stage, with_header, after_header, read_image}
-use Rattle.image.specs.Answers.{Filled, accepts, header_answer, no_entries, entries_in, pages_answer, image_answer}
-use Rattle.image.specs.declared.HeaderTest.TheVariants.{Passed, Refused}
-use Rattle.image.specs.declared.PagesTest.{PagesTest}
+use Rattle.image.specs.Answers.{Filled, accepts, no_entries, entries_in, pages_answer, image_answer}
 use Rattle.image_header.proofs.Heads.{Counts, counts_are}
 use Rattle.image.proofs.Collect.{first_page}
 use Rattle.image.proofs.Named.{due_count, filled_yes, filled_not}
@@ -29,21 +28,15 @@ use Rattle.image.proofs.Named.{due_count, filled_yes, filled_not}
 -- ---- 1 and 22
 
 module _ (xs : List ℕ) where
-  ragged : whole_blocks (length xs) ≡ false → Refused 1 ≡ header_answer (header_stage xs)
-  unfolding header_stage header_answer if'◌then◌else◌
-  ragged e = rw e
-
-  pub not_whole : (length xs % block_size ≡ 0 → ⊥) → Refused 1 ≡ header_answer (header_stage xs)
-  unfolding whole_blocks
-  not_whole h = ragged (rw (ne_eqb (length xs % block_size) 0 h))
-
-  pub too_few : length xs / block_size < 2 → Refused 1 ≡ header_answer (header_stage xs)
-  unfolding whole_blocks
-  too_few h = ragged (rw (lt-leb 2 (length xs / block_size) h, and_no))
-
-  pub too_many : block_limit < length xs / block_size → Refused 1 ≡ header_answer (header_stage xs)
-  unfolding whole_blocks
-  too_many h = ragged (rw (lt-leb (length xs / block_size) block_limit h, and_no, and_no))
+  pub ragged : (length xs % block_size ≡ 0 → 2 ≤ length xs / block_size → length xs / block_size ≤ block_limit → ⊥) → refuses 1 ≡ header_stage xs
+  unfolding header_stage whole_blocks if'◌then◌else◌
+  ragged n =
+      by (whole_blocks (length xs))
+      (λ w.
+      let p = and_true (eqb (length xs % block_size) 0) (leb 2 (length xs / block_size) && leb (length xs / block_size) block_limit) w in
+      let q = and_true (leb 2 (length xs / block_size)) (leb (length xs / block_size) block_limit) p.1 in
+      absurd (n (eqb-true _ _ p.0) (leb-true _ _ q.0) (leb-true _ _ q.1)))
+      (λ w. rw w)
 
   module _ (w : length xs % block_size ≡ 0) (l : 2 ≤ length xs / block_size) (m : length xs / block_size ≤ block_limit) (bs : List ℕ) (b : bs ≡ block_at xs 0) where
     -- the first block decides
@@ -52,17 +45,17 @@ module _ (xs : List ℕ) where
     by_block = rw (b, eq-eqb (length xs % block_size) 0 w, le-leb 2 (length xs / block_size) l, le-leb (length xs / block_size) block_limit m)
 
 module _ (n : ℕ) where
-  pub header_yes : (b : Block) {h : Header} → IsHeader h ≡ reading b → header_ok n h ≡ true → Passed h ≡ header_answer (header_test n (as_header b))
-  unfolding header_answer header_test if'◌then◌else◌
+  pub header_yes : (b : Block) {h : Header} → Some (read.Header h) ≡ reading b → header_ok n h ≡ true → holds h ≡ header_test n (as_header b)
+  unfolding header_test if'◌then◌else◌
   header_yes b e t = rw (is_header_lem b e, t)
 
-  pub header_no : (b : Block) {h : Header} → IsHeader h ≡ reading b → header_ok n h ≡ false → Refused 22 ≡ header_answer (header_test n (as_header b))
-  unfolding header_answer header_test if'◌then◌else◌
+  pub header_no : (b : Block) {h : Header} → Some (read.Header h) ≡ reading b → header_ok n h ≡ false → refuses 22 ≡ header_test n (as_header b)
+  unfolding header_test if'◌then◌else◌
   header_no b e t = rw (is_header_lem b e, t)
 
-  pub other_header : (b : Block) → as_header b ≡ none → Refused 22 ≡ header_answer (header_test n (as_header b))
-  unfolding header_answer header_test
-  other_header b e = rw e
+  pub other_header : (b : Block) → ((h : Header) → reading b ≡ Some (read.Header h) → ⊥) → refuses 22 ≡ header_test n (as_header b)
+  unfolding header_test
+  other_header b e = rw (no_header b e)
 
 -- what a header that passed says
 pub record Passing (xs : List ℕ) (h : Header) : Type 0 where
@@ -155,18 +148,18 @@ module _ (v : View) (h : Header) where
       unfolding page_test
       bad_pages q = by_pages ∙ pages_refused (read_pages v h.level es) q
 
-      pages_accepted : (o : Option (List StoredPage)) → read_pages v h.level es ≡ o → accepts (tested_pages h o) ≡ true
-          → pages_answer (tested_pages h o) ≡ record { refusal = 0; entries = over no_entries 0 es }
+      pages_held : (o : Option (List StoredPage)) → read_pages v h.level es ≡ o → accepts (tested_pages h o) ≡ true
+          → pages_answer (tested_pages h o) ≡ holds (over no_entries 0 es)
       unfolding accepts tested_pages pages_answer entries_in if'◌then◌else◌
-      pages_accepted none r q = lie q
-      pages_accepted (some ps) r q =
+      pages_held none r q = lie q
+      pages_held (some ps) r q =
           by (rows_ok h.capacity h.next (rows_of_pages ps))
           (λ k. rw (k, read_blocks v h.level es ps r))
           (λ k. let z : false ≡ true = rw k at q in lie z)
 
-      pub all_good : accepts (page_test v h es) ≡ true → pages_answer (pages_stage v h) ≡ record { refusal = 0; entries = over no_entries 0 es }
+      pub all_good : accepts (page_test v h es) ≡ true → pages_answer (pages_stage v h) ≡ holds (over no_entries 0 es)
       unfolding page_test
-      all_good q = ap pages_answer by_pages ∙ pages_accepted (read_pages v h.level es) refl q
+      all_good q = ap pages_answer by_pages ∙ pages_held (read_pages v h.level es) refl q
 
 -- what they showed, where they passed
 pub record Tested (v : View) (h : Header) (ps : List StoredPage) : Type 0 where
@@ -194,159 +187,119 @@ tested v h ps e =
 
 -- ---- the same, as the code has it
 
-none_many : length no_entries ≡ capacity_limit
+-- the 1,024 zeros that the code begins with
+pub none_read : zeros capacity_limit ≡ no_entries
 unfolding no_entries
-none_many = length-replicate {A = ℕ} capacity_limit 0
-
--- the counts that the code works with
-pub record Begun (xs : List ℕ) (h : Header) (pages used : ℕ) : Type 0 where
-  pub passed : Passing xs h
-  pub pages_are : pages ≡ h.pages
-  pub used_are : used ≡ h.directories
+none_read = refl
 
 -- the entries that were read
-pub record Got (xs : List ℕ) (h : Header) (pages used : ℕ) (out : List ℕ) : Type 0 where
-  pub begun : Begun xs h pages used
+pub record Got (xs : List ℕ) (h : Header) (out : List ℕ) : Type 0 where
+  pub passed : Passing xs h
   pub entries : List ℕ
   pub read : entries_read (view xs) h ≡ some entries
   pub out_are : out ≡ over no_entries 0 entries
-  pub front : take pages out ≡ entries
+  pub front : take h.pages out ≡ entries
 
-module _ {xs : List ℕ} {h : Header} {pages used : ℕ} where
-  module _ (b : Begun xs h pages used) where
-    pub four : used ≤ 4
-    four = omega (arith, b.used_are, b.passed.counts.four)
+module _ {xs : List ℕ} {h : Header} where
+  module _ (b : Passing xs h) where
+    pub four : h.directories ≤ 4
+    four = omega (arith, b.counts.four)
 
-    pub within_none : {l : List ℕ} → l ≡ no_entries → pages ≤ length l
-    within_none e = omega (arith, b.pages_are, b.passed.counts.pages, b.passed.counts.high, ap length e, none_many)
+    pub within_none : h.pages ≤ capacity_limit
+    within_none = omega (arith, b.counts.pages, b.counts.high)
 
-    pub named : all (block_ok (block_count xs)) (take used (numbers_of h)) ≡ true
+    pub named : all (block_ok (block_count xs)) (take h.directories (numbers_of h)) ≡ true
     unfolding directory_blocks
-    named = rw b.used_are b.passed.directories
+    named = b.directories
 
-    read_are : read_directories (view xs) h.level pages (take used (numbers_of h)) ≡ entries_read (view xs) h
+    read_are : read_directories (view xs) h.level h.pages (take h.directories (numbers_of h)) ≡ entries_read (view xs) h
     unfolding directory_blocks
-    read_are = rw (b.pages_are, b.used_are)
+    read_are = refl
 
     -- each directory block but the last has 336 entries
-    enough : pages ≤ entries_per_block * length (take used (numbers_of h))
+    enough : h.pages ≤ entries_per_block * length (take h.directories (numbers_of h))
     unfolding directories_for
-    enough = simp length-take (omega (arith, four, b.used_are, b.pages_are, b.passed.counts.directories))
+    enough = simp length-take (omega (arith, four, b.counts.directories))
 
-    module _ {none : List ℕ} (e : none ≡ no_entries) (out : List ℕ) (r : Bool)
-        (f : Filled (read_directories (view xs) h.level pages (take used (numbers_of h))) 0 none r out) where
-      pub not_read : r ≡ false → pages_stage (view xs) h ≡ refuses 23
-      not_read t = bad_directory (view xs) h (sym read_are ∙ filled_not _ 0 none out r t f)
+    module _ {none : List ℕ} (e : none ≡ no_entries) (out : List ℕ) {r : Answer ℕ}
+        (f : Filled (read_directories (view xs) h.level h.pages (take h.directories (numbers_of h))) 0 none r out) where
+      pub not_read : r ≡ None → pages_stage (view xs) h ≡ refuses 23
+      not_read t = bad_directory (view xs) h (sym read_are ∙ filled_not _ 0 none out t f)
 
-      pub got : r ≡ true → Got xs h pages used out
+      pub got : {n : ℕ} → r ≡ Some n → Got xs h out
       unfolding over
       got t =
-          let q = filled_yes (read_directories (view xs) h.level pages (take used (numbers_of h))) 0 none out r t f in
-          let n = entries_count (view xs) h.level (take used (numbers_of h)) pages q.entries enough q.some_are in
+          let q = filled_yes (read_directories (view xs) h.level h.pages (take h.directories (numbers_of h))) 0 none out t f in
+          let n = entries_count (view xs) h.level (take h.directories (numbers_of h)) h.pages q.entries enough q.some_are in
           let o : out ≡ over no_entries 0 q.entries = q.put ∙ ap (λ (l : List ℕ). over l 0 q.entries) e in
           record {
-            begun = b;
+            passed = b;
             entries = q.entries;
             read = sym read_are ∙ q.some_are;
             out_are = o;
-            front = ap (take pages) o ∙ take_at q.entries (drop (0 + length q.entries) no_entries) pages n;
+            front = ap (take h.pages) o ∙ take_at q.entries (drop (0 + length q.entries) no_entries) h.pages n;
           }
 
-  module _ {out : List ℕ} (g : Got xs h pages used out) {k : Bool} (ok : k ≡ entries_ok h.blocks (take used (numbers_of h)) (take pages out)) where
+  module _ {out : List ℕ} (g : Got xs h out) {k : Bool} (ok : k ≡ entries_ok h.blocks (take h.directories (numbers_of h)) (take h.pages out)) where
     ok_are : {b : Bool} → k ≡ b → entries_ok h.blocks (directory_blocks h) g.entries ≡ b
     unfolding directory_blocks
-    ok_are t = rw (← g.begun.used_are, ← g.front) (sym ok ∙ t)
+    ok_are t = rw (← g.front) (sym ok ∙ t)
 
     pub not_ok : k ≡ false → pages_stage (view xs) h ≡ refuses 23
     not_ok t = bad_entries (view xs) h g.entries g.read (ok_are t)
 
     module _ (t : k ≡ true) where
       -- every entry is a block of the image
-      pub in_image : all (block_ok (block_count xs)) (take pages out) ≡ true
+      pub in_image : all (block_ok (block_count xs)) (take h.pages out) ≡ true
       unfolding entries_ok every
-      in_image = rw (g.front, ← g.begun.passed.counts.blocks) (and_true (all (block_ok h.blocks) g.entries) _ (ok_are t)).0
+      in_image = rw (g.front, ← g.passed.counts.blocks) (and_true (all (block_ok h.blocks) g.entries) _ (ok_are t)).0
 
-      module _ {m : Bool} (pages-ok : m ≡ accepts (page_test (view xs) h (take pages out))) where
+      module _ {m : Bool} (pages-ok : m ≡ accepts (page_test (view xs) h (take h.pages out))) where
         test_are : accepts (page_test (view xs) h g.entries) ≡ m
         test_are = sym (pages-ok ∙ rw g.front)
 
         pub wrong_pages : m ≡ false → pages_stage (view xs) h ≡ refuses 24
         wrong_pages q = bad_pages (view xs) h g.entries g.read (ok_are t) (test_are ∙ q)
 
-        pub right_pages : m ≡ true → record { refusal = 0; entries = out } ≡ pages_answer (pages_stage (view xs) h)
+        pub right_pages : m ≡ true → holds out ≡ pages_answer (pages_stage (view xs) h)
         right_pages q = rw g.out_are (sym (all_good (view xs) h g.entries g.read (ok_are t) (test_are ∙ q)))
 
 -- ---- all together
 
--- no stage refuses with the number 0
-module _ (v : View) (h : Header) (n : ℕ) where
-  entries_number : (o : Option (List ℕ)) → tested_entries h o ≡ refuses n → 0 < n
-  unfolding tested_entries if'◌then◌else◌
-  entries_number none e = let z : n ≡ 23 = cc in omega arith
-  entries_number (some es) e =
-      by (entries_ok h.blocks (directory_blocks h) es)
-      (λ t. refuses-holds (sym (rw t at e)))
-      (λ t. let k : ◌≡◌ {A = Stage (List ℕ)} (refuses 23) (refuses n) = rw t at e in let z : n ≡ 23 = cc in omega arith)
-
-  pages_number : (o : Option (List StoredPage)) → tested_pages h o ≡ refuses n → 0 < n
-  unfolding tested_pages if'◌then◌else◌
-  pages_number none e = let z : n ≡ 24 = cc in omega arith
-  pages_number (some ps) e =
-      by (rows_ok h.capacity h.next (rows_of_pages ps))
-      (λ t. refuses-holds (sym (rw t at e)))
-      (λ t. let k : ◌≡◌ {A = Stage (List StoredPage)} (refuses 24) (refuses n) = rw t at e in let z : n ≡ 24 = cc in omega arith)
-
-  below_number : (d : Stage (List ℕ)) → (d ≡ refuses n → 0 < n) → pages_below v h d ≡ refuses n → 0 < n
-  unfolding pages_below page_test
-  below_number (refuses m) f e = let z : m ≡ n = cc in f (ap refuses z)
-  below_number (holds es) f e = pages_number (read_pages v h.level es) e
-
-  pub stage_number : pages_stage v h ≡ refuses n → 0 < n
-  unfolding pages_stage directory_test
-  stage_number e = below_number (directory_test v h) (entries_number (read_directories v h.level h.pages (directory_blocks h))) e
-
--- what the answers of the stages say
-stage_passed : (s : Stage Header) (h : Header) → Passed h ≡ header_answer s → s ≡ holds h
-unfolding header_answer
-stage_passed (refuses n) h e = clash cc
-stage_passed (holds g) h e = let z : h ≡ g = cc in ap holds (sym z)
-
-pub stage_refused : (s : Stage Header) (n : ℕ) → Refused n ≡ header_answer s → s ≡ refuses n
-unfolding header_answer
-stage_refused (refuses m) n e = let z : n ≡ m = cc in ap refuses (sym z)
-stage_refused (holds g) n e = clash cc
-
-pub pages_refusal : (s : Stage (List StoredPage)) (t : PagesTest) → t ≡ pages_answer s → (t.refusal ≡ 0 → ⊥) → s ≡ refuses t.refusal
+-- what the answer of tests 23 and 24 says
+pub pages_stopped : (s : Stage (List StoredPage)) {n : ℕ} → refuses n ≡ pages_answer s → s ≡ refuses n
 unfolding pages_answer
-pages_refusal (refuses m) t e d = ap refuses (sym (ap (λ (x : PagesTest). x.refusal) e))
-pages_refusal (holds ps) t e d = absurd (d (ap (λ (x : PagesTest). x.refusal) e))
+pages_stopped (refuses m) {n} e = let z : n ≡ m = cc in ap refuses (sym z)
+pages_stopped (holds ps) e = refuses-holds e
 
--- an accepted image
-accepted_image : (h : Header) (s : Stage (List StoredPage)) (t : PagesTest) → t ≡ pages_answer s → t.refusal ≡ 0 → (s ≡ refuses 0 → ⊥)
-    → record { refusal = 0; header = h; entries = t.entries } ≡ image_answer (with_header h s)
-unfolding pages_answer image_answer with_header
-accepted_image h (refuses m) t e z n =
-    let k : m ≡ 0 = sym (ap (λ (x : PagesTest). x.refusal) e) ∙ z in absurd (n (ap refuses k))
-accepted_image h (holds ps) t e z n =
-    let k = ap (λ (x : PagesTest). x.entries) e in λ i. record { refusal = 0; header = h; entries = k i }
+-- the pages that were accepted, and their entries
+pub record Accepted (s : Stage (List StoredPage)) (es : List ℕ) : Type 0 where
+  pub pages : List StoredPage
+  pub is : s ≡ holds pages
+  pub entries : es ≡ entries_in pages
+
+pub pages_accepted : (s : Stage (List StoredPage)) {es : List ℕ} → holds es ≡ pages_answer s → Accepted s es
+unfolding pages_answer
+pages_accepted (refuses n) e = refuses-holds (sym e)
+pages_accepted (holds ps) e = record { pages = ps; is = refl; entries = holds_eq e }
 
 module _ (xs : List ℕ) where
-  pub passed_is : (h : Header) → Passed h ≡ header_answer (header_stage xs) → header_stage xs ≡ holds h
-  passed_is h e = stage_passed (header_stage xs) h e
+  pub image_refused : {n : ℕ} → refuses n ≡ header_stage xs → refuses n ≡ image_answer (read_image xs)
+  unfolding read_image after_header image_answer
+  image_refused e = rw (← e)
 
-  pub image_refused : (n : ℕ) → Refused n ≡ header_answer (header_stage xs) → image_answer (refuses n) ≡ image_answer (read_image xs)
-  unfolding read_image after_header
-  image_refused n e = rw (stage_refused (header_stage xs) n e)
-
-  module _ (h : Header) (e : header_stage xs ≡ holds h) (t : PagesTest) (q : t ≡ pages_answer (pages_stage (view xs) h)) where
+  module _ (h : Header) (e : holds h ≡ header_stage xs) where
     then_pages : image_answer (with_header h (pages_stage (view xs) h)) ≡ image_answer (read_image xs)
     unfolding read_image after_header
-    then_pages = rw e
+    then_pages = rw (← e)
 
-    pub image_stopped : (t.refusal ≡ 0 → ⊥) → image_answer (refuses t.refusal) ≡ image_answer (read_image xs)
-    unfolding with_header
-    image_stopped d = sym (ap (λ (s : Stage (List StoredPage)). image_answer (with_header h s)) (pages_refusal (pages_stage (view xs) h) t q d)) ∙ then_pages
+    pub image_stopped : {n : ℕ} → refuses n ≡ pages_answer (pages_stage (view xs) h) → refuses n ≡ image_answer (read_image xs)
+    unfolding with_header image_answer
+    image_stopped q = sym (ap (λ (s : Stage (List StoredPage)). image_answer (with_header h s)) (pages_stopped (pages_stage (view xs) h) q)) ∙ then_pages
 
-    pub image_holds : t.refusal ≡ 0 → record { refusal = 0; header = h; entries = t.entries } ≡ image_answer (read_image xs)
-    image_holds z =
-        accepted_image h (pages_stage (view xs) h) t q z (λ r. let k = stage_number (view xs) h 0 r in omega arith) ∙ then_pages
+    pub image_holds : {es : List ℕ} → holds es ≡ pages_answer (pages_stage (view xs) h) → holds (record { header = h; entries = es }) ≡ image_answer (read_image xs)
+    unfolding with_header image_answer
+    image_holds q =
+        let a = pages_accepted (pages_stage (view xs) h) q in
+        (λ i. holds (record { header = h; entries = a.entries i }))
+        ∙ sym (ap (λ (s : Stage (List StoredPage)). image_answer (with_header h s)) a.is) ∙ then_pages

@@ -3,6 +3,7 @@ use Rattle.basics.proofs.Kit.{◌≡◌, refl, ◌∙◌, Bool, true, false, not
 use Rattle.basics.proofs.Kit.{get_or-set_other, ne_eqb, arith}
 use mir.Val.{bool_byte}
 use Rattle.basics.specs.Basics.{if'◌then◌else◌}
+use Rattle.basics.proofs.Facts.{by}
 use Rattle.block_forms.specs.Limits.{statement_limit}
 use Rattle.block_forms.specs.Tuple.{tentative, is_tentative}
 use Rattle.block_forms.specs.Bytes.{owner_is, tuple_of}
@@ -69,9 +70,9 @@ module _ (t : ℕ) (r : Record) (p : List ℕ) where
   unfolding mark_ok tuple_of
   unmarked h = rw h
 
-  pub marked_held : not r.mark ≡ false → r.owner ≡ Committed → mark_ok (t, tuple_of r p) ≡ false
+  pub held : r.owner ≡ Committed → not r.mark ≡ mark_ok (t, tuple_of r p)
   unfolding mark_ok tuple_of is_tentative
-  marked_held h o = rw (h, o)
+  held o = rw o (by (not r.mark) (λ h. rw h) (λ h. rw h))
 
   pub marked_open : {u s : ℕ} → not r.mark ≡ false → r.owner ≡ Tentative u s → length p ≡ r.len → mark_ok (t, tuple_of r p) ≡ eqb r.len 0
   unfolding mark_ok tuple_of is_tentative

@@ -13,37 +13,16 @@ ghost use Rattle.image_rows.specs.Rows.{rows_of, mark_ok};
 ghost use Rattle.image_rows.specs.Columns.{coded_owner, rows_in, bare, ColumnsHold};
 ghost use Rattle.image_page.specs.Page.{good_page};
 
-use block_forms::{Owner, PageLayout, Record};
-use block_reader::{Cursor, Next, Reading};
-
-// A page that may stand in an image.
-#[derive(Clone, Copy)]
-pub enum GoodPage {
-    Good { table: u32, count: u32 },
-    Bad,
-}
-
-// The same number, as a size.
-fn wide(x: u32) -> usize
-    ensures { result ≡ x }
-{
-    x as usize
-}
+use block_forms::{Owner, Record};
+use block_reader::{Block, Cursor, PageHead};
 
 // Whether the record, if it is a delete mark, is tentative and has no payload.
 fn mark_ok(r: Record) -> bool
     ensures { (t : ℕ) (p : List ℕ) → length p ≡ r.len → result ≡ mark_ok (t, tuple_of r p) }
 {
-    if !r.mark {
-        return true;
-    }
-    let o = r.owner;
-    match o {
-        Owner::Committed => false,
-        Owner::Tentative {
-            transaction: _,
-            statement: _,
-        } => r.len == 0,
+    match r.owner {
+        Owner::Committed => !r.mark,
+        Owner::Tentative { .. } => !r.mark || r.len == 0,
     }
 }
 
@@ -52,21 +31,15 @@ fn marks_ok(block: &[u8], count: u32) -> bool
     requires { length block.now ≡ block_size }
     ensures { (t : ℕ) (ts : List Tuple) → page_tuples count block.now ≡ some ts → result ≡ all mark_ok (rows_of t ts) }
 {
-    let mut at: usize = PageLayout::HEAD_SIZE;
-    let mut i: u32 = 0;
-    while i < count {
-        match (Cursor { at: at }).next(block) {
-            Next::Found(r, c) => {
-                if !mark_ok(r) {
-                    return false;
-                }
-                at = c.at;
-            }
-            Next::Bad => {
-                return false;
-            }
+    let mut cursor = Cursor::first();
+    for _ in 0..count {
+        let Some((r, after)) = cursor.next(block) else {
+            return false;
+        };
+        if !mark_ok(r) {
+            return false;
         }
-        i = i + 1;
+        cursor = after;
     }
     true
 }
@@ -86,9 +59,9 @@ fn owner_code(owner: Owner) -> u64
     match owner {
         Owner::Committed => 0,
         Owner::Tentative {
-            transaction: t,
-            statement: s,
-        } => 1 + t as u64 * image_rows::STATEMENTS + s as u64,
+            transaction,
+            statement,
+        } => 1 + transaction as u64 * image_rows::STATEMENTS + statement as u64,
     }
 }
 
@@ -109,16 +82,14 @@ fn put_row(
 {
     places[k] = place(table, r.key);
     numbers[k] = r.number;
-    let o = r.owner;
-    owners[k] = owner_code(o);
+    owners[k] = owner_code(r.owner);
     marks[k] = r.mark as u8;
 }
 
 // The tuples of a page's block go into the columns from place k on.
 pub fn add_rows(
     block: &[u8],
-    table: u32,
-    count: u32,
+    page: PageHead,
     places: &mut [u64],
     numbers: &mut [u32],
     owners: &mut [u64],
@@ -126,59 +97,36 @@ pub fn add_rows(
     k: usize,
 )
     requires block_len { length block.now ≡ block_size }
-    requires columns_hold { ColumnsHold places.old numbers.old owners.old marks.old (k + count) }
-    ensures { (ts : List Tuple) → page_tuples count block.now ≡ some ts
-        → rows_in places.new numbers.new owners.new marks.new (k + count)
-        ≡ rows_in places.old numbers.old owners.old marks.old k ++ map bare (rows_of table ts) }
+    requires columns_hold { ColumnsHold places.old numbers.old owners.old marks.old (k + page.count) }
+    ensures { (ts : List Tuple) → page_tuples page.count block.now ≡ some ts
+        → rows_in places.new numbers.new owners.new marks.new (k + page.count)
+        ≡ rows_in places.old numbers.old owners.old marks.old k ++ map bare (rows_of page.table ts) }
 {
-    let mut at: usize = PageLayout::HEAD_SIZE;
-    let mut i: u32 = 0;
-    let mut to = k;
-    while i < count {
-        match (Cursor { at: at }).next(block) {
-            Next::Found(r, c) => {
-                put_row(places, numbers, owners, marks, to, table, r);
-                at = c.at;
-            }
-            Next::Bad => {
-                return;
-            }
-        }
-        to = to + 1;
-        i = i + 1;
+    let mut cursor = Cursor::first();
+    for i in 0..page.count as usize {
+        let Some((r, after)) = cursor.next(block) else {
+            return;
+        };
+        put_row(places, numbers, owners, marks, k + i, page.table, r);
+        cursor = after;
     }
 }
 
-// Whether the block is a page that may stand in an image whose header has this level, with at most `room` tuples; its table and count.
-pub fn good_page(block: &[u8; block_forms::BLOCK_SIZE], level: u32, room: usize) -> GoodPage
+// The head of a page that may stand in an image whose header has this level, with at most `room` tuples.
+pub fn good_page(block: &[u8; block_forms::BLOCK_SIZE], level: u32, room: usize) -> Option<PageHead>
     ensures { result ≡ good_page level room (as_page (decode_block block.now)) }
 {
-    match block_reader::read_block(block) {
-        Reading::IsPage {
-            table,
-            count,
-            level: k,
-        } => {
-            if count < 1 {
-                return GoodPage::Bad;
-            }
-            if k < 1 {
-                return GoodPage::Bad;
-            }
-            if level < k {
-                return GoodPage::Bad;
-            }
-            if room < wide(count) {
-                return GoodPage::Bad;
-            }
-            if !marks_ok(block, count) {
-                return GoodPage::Bad;
-            }
-            GoodPage::Good {
-                table: table,
-                count: count,
-            }
-        }
-        _ => GoodPage::Bad,
+    let Block::Page(page) = block_reader::read_block(block)? else {
+        return None;
+    };
+    if 1 <= page.count
+        && 1 <= page.level
+        && page.level <= level
+        && page.count as usize <= room
+        && marks_ok(block, page.count)
+    {
+        Some(page)
+    } else {
+        None
     }
 }

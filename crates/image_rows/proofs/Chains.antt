@@ -1,9 +1,11 @@
 -- The hash table: what `last_by` finds, one step along a chain, and one more row linked.
-use Rattle.basics.proofs.Kit.{◌≡◌, refl, sym, ap, ◌∙◌, Bool, true, false, ◌&&◌, List, ℕ, suc, ◌+◌, ◌%◌, ◌≤◌, ◌<◌, zero, ◌-◌, add-one, eqb, ltb, length, get_or, set, length-set}
-use Rattle.basics.proofs.Kit.{length-replicate, replicate, get_or-replicate, get_or-set_same, get_or-set_other, lt-ltb, eqb-true, eq-eqb, ne_eqb, eqb-false, ltb-true, arith}
+use Rattle.basics.proofs.Kit.{◌≡◌, refl, sym, ap, ◌∙◌, Bool, true, false, List, ℕ, suc, ◌+◌, ◌%◌, ◌≤◌, ◌<◌, zero, ◌-◌, add-one, eqb, ltb, length, get_or, set, length-set}
+use Rattle.basics.proofs.Kit.{length-replicate, replicate, get_or-replicate, get_or-set_same, get_or-set_other, eqb-true, eq-eqb, ne_eqb, eqb-false, arith}
 use Rattle.basics.specs.Basics.{if'◌then◌else◌, all}
-use Rattle.basics.proofs.Facts.{by, lie, and_true}
+use Rattle.basics.proofs.Facts.{by, lie}
 use Rattle.basics.specs.Lists.{tab}
+use Rattle.std.specs.Prelude.{Option, None, Some, MatchOption, is_some}
+use Rattle.basics.proofs.Kit.{◌⊎◌, ⊎_elim}
 use Rattle.image_rows.specs.Chains.{bucket_count, last_by, bucket_of, in_bucket, Chained, Table, Chain, is_new, keys_once, is_there_below, is_next}
 use Rattle.basics.proofs.Iterations.{tab_whole, all_yes, all_not, all_end}
 use Rattle.basics.proofs.Searches.{tab_next, tab_none}
@@ -167,19 +169,22 @@ module _ {xs heads links : List ℕ} {n : ℕ} (t : Table xs heads links n) {b :
 
 -- a key's row is new if it is no key, or is not found before
 module _ (xs : List ℕ) (i : ℕ) {x r : ℕ} (own : x ≡ get_or xs i 0) (e : r ≡ last_by (eqb x) xs i) where
-  pub new_not : (ltb 0 x && ltb 0 r) ≡ true → is_new xs i ≡ false
+  new_not : 0 < x → 0 < r → is_new xs i ≡ false
   unfolding is_new
-  new_not t = let w = and_true (ltb 0 x) (ltb 0 r) t in
-      rw (← own, ← e, ne_eqb x 0 (λ z. omega (arith, ltb-true 0 x w.0)), ne_eqb r 0 (λ z. omega (arith, ltb-true 0 r w.1)))
+  new_not h k = rw (← own, ← e, ne_eqb x 0 (λ z. omega arith), ne_eqb r 0 (λ z. omega arith))
 
-  pub new_yes : (ltb 0 x && ltb 0 r) ≡ false → is_new xs i ≡ true
+  new_yes : (x ≡ 0) ⊎ (r ≡ 0) → is_new xs i ≡ true
   unfolding is_new
-  new_yes t =
-      rw (← own, ← e) (by (eqb x 0) (λ z. rw z) (λ z. rw (z, eq-eqb r 0 (none z))))
-    where
-      none : eqb x 0 ≡ false → r ≡ 0
-      none z = by (eqb r 0) (λ y. eqb-true r 0 y)
-          (λ y. lie (sym t ∙ rw (lt-ltb 0 x (omega (arith, eqb-false x 0 z)), lt-ltb 0 r (omega (arith, eqb-false r 0 y)))))
+  new_yes w = rw (← own, ← e) (⊎_elim (λ z. rw (eq-eqb x 0 z)) (λ z. by (eqb x 0) (λ t. rw t) (λ t. rw (t, eq-eqb r 0 z))) w)
+
+-- what is found is 1 + a row, and 0 if none is
+pub found_some : (v : ℕ) (o : Option ℕ) → MatchOption o (v ≡ 0) (λ row. v ≡ row + 1) → is_some o ≡ true → 0 < v
+found_some v None e t = lie t
+found_some v (Some row) e t = omega arith
+
+pub found_none : (v : ℕ) (o : Option ℕ) → MatchOption o (v ≡ 0) (λ row. v ≡ row + 1) → is_some o ≡ false → v ≡ 0
+found_none v None e t = e
+found_none v (Some row) e t = lie (sym t)
 
 -- ---- linking row by row
 
@@ -200,11 +205,11 @@ module _ (xs : List ℕ) (n : ℕ) {heads links : List ℕ} where
 
   module _ {i : ℕ} (w : Linking xs n heads links i) (h : i < n) {b r : ℕ} (e : b ≡ bucket_of (get_or xs i 0))
       (f : r ≡ last_by (eqb (get_or xs i 0)) xs (get_or heads b 0)) where
-    pub linking_stop : (ltb 0 (get_or xs i 0) && ltb 0 r) ≡ true → false ≡ keys_once xs n
-    linking_stop t =
-        sym (w.left ∙ all_not (is_new xs) (tab_next (λ j. j) i n h) (new_not xs i refl (table_finds w.table (get_or xs i 0) e f) t))
+    pub linking_stop : 0 < get_or xs i 0 → 0 < r → false ≡ keys_once xs n
+    linking_stop k t =
+        sym (w.left ∙ all_not (is_new xs) (tab_next (λ j. j) i n h) (new_not xs i refl (table_finds w.table (get_or xs i 0) e f) k t))
 
-    pub linking_iteration : (ltb 0 (get_or xs i 0) && ltb 0 r) ≡ false → i < length xs → i < length links
+    pub linking_iteration : (get_or xs i 0 ≡ 0) ⊎ (r ≡ 0) → i < length xs → i < length links
         → Linking xs n (set heads b (i + 1)) (set links i (get_or heads b 0)) (i + 1)
     linking_iteration t room spare = record {
       table = table_iteration w.table (get_or xs i 0) e refl room spare;
@@ -224,6 +229,6 @@ module _ (ns os : List ℕ) (n i : ℕ) where
     unfolding is_next is_there_below
     next_none e = rw (ne_eqb _ _ later, ← f, e)
 
-    pub next_found : (j ≡ 0 → ⊥) → ltb (get_or ns (j - 1) 0) (get_or ns i 0) ≡ is_next ns os n i
+    pub next_found : (row : ℕ) → j ≡ row + 1 → ltb (get_or ns row 0) (get_or ns i 0) ≡ is_next ns os n i
     unfolding is_next is_there_below
-    next_found h = let e : j ≡ suc (j - 1) = omega arith in sym (rw (ne_eqb _ _ later, ← f) (ap (is_there_below ns (get_or ns i 0)) e))
+    next_found row e = let k : j ≡ suc row = omega arith in sym (rw (ne_eqb _ _ later, ← f) (ap (is_there_below ns (get_or ns i 0)) k))

@@ -4,6 +4,11 @@ use Rattle.basics.proofs.Kit.{◌≡◌, refl, sym, ap, ◌∙◌, false, ◌&&�
 use Rattle.basics.specs.Basics.{if'◌then◌else◌, all, every, paired, how_many, distinct}
 use Rattle.block_forms.specs.Tuple.{Owner, committed, tentative}
 use Rattle.image_rows.specs.Rows.{Row, number, is_by, is_own, follows, starts_well, is_below, earlier_by, statement_is, statement_ok, transactions, open_limit}
+use Rattle.basics.proofs.Facts.{by}
+use Rattle.basics.proofs.Ands.{and_no}
+use Rattle.image_rows.specs.Chains.{starts}
+use Rattle.image_rows.proofs.Counts.{starts_transactions}
+use Rattle.image_rows.proofs.Order.{statements_ordered}
 use Rattle.image_rows.specs.Columns.{coded_owner, coded, row_at, rows_in, columns_ok}
 use Rattle.basics.proofs.Ands.{and_yes, and_assoc}
 use Rattle.basics.proofs.Tabs.{take_tab, tab_self}
@@ -100,3 +105,16 @@ module _ (ps ns os ms : List ℕ) (n : ℕ) (h : n ≤ length ns) where
         ← numbers_columns,
         and_yes,
       )
+
+  -- the tests in the code's order, which counts transactions by their first statements
+  pub tests_in_turn : (next : ℕ) →
+      columns_ok next (rows_in ps ns os ms n)
+      ≡ ((paired follows (rows_in ps ns os ms n) && starts_well (rows_in ps ns os ms n))
+      && (distinct (take n ns)
+      && (all (is_below next) (rows_in [] ns [] [] n) && (all (statement_ok (rows_in [] ns os [] n)) (rows_in [] ns os [] n) && leb (starts os n) open_limit))))
+  tests_in_turn next =
+      columns_tests next ∙ by (distinct (take n ns))
+      (λ d. by (all (statement_ok (rows_in [] ns os [] n)) (rows_in [] ns os [] n))
+      (λ t. rw (d, t, ← starts_transactions _ _ _ (statements_ordered _ _ _ h d t), and_yes))
+      (λ t. rw (d, t, and_no)))
+      (λ d. rw d)

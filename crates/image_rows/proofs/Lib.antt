@@ -1,3 +1,4 @@
+pub mod Parts
 pub mod Owners
 pub mod Chains
 pub mod Keys

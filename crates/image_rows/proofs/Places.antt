@@ -3,7 +3,7 @@ use Rattle.basics.proofs.Kit.{◌≡◌, refl, sym, ◌∙◌, Bool, true, false
 use Rattle.basics.proofs.Kit.{eqb-true, eq-eqb, ne_eqb, eqb-false, not-true, not-false, arith}
 use Rattle.basics.specs.Basics.{if'◌then◌else◌, paired}
 use Rattle.basics.proofs.Facts.{by}
-use Rattle.block_forms.specs.Tuple.{committed}
+use Rattle.block_forms.specs.Limits.{statement_limit}
 use Rattle.image_rows.specs.Rows.{is_at, is_lower, owner_after, follows, starts_well}
 use Rattle.image_rows.specs.Columns.{coded, coded_owner, row_at, rows_in}
 use Rattle.basics.specs.Lists.{tab}
@@ -47,13 +47,17 @@ unmarked m =
     (λ e. let t = eqb-true m 0 e in rw (e, lt-leb 1 m (omega arith)))
     (λ e. let t = eqb-false m 0 e in rw (e, le-leb 1 m (omega arith)))
 
--- after a committed version of its key, none that is committed
-pub after_committed : (o : ℕ) → owner_after committed (coded_owner o) ≡ ltb 0 o
+-- which owner may follow which of the same key, by their codes
+pub owner_follows : (o o' : ℕ) → owner_after (coded_owner o) (coded_owner o') ≡ (ltb 0 o' && (eqb o 0 || eqb ((o - 1) / statement_limit) ((o' - 1) / statement_limit)))
 unfolding owner_after coded_owner if'◌then◌else◌
-after_committed o =
+owner_follows o o' =
     by (eqb o 0)
-    (λ e. let t = eqb-true o 0 e in rw (e, le-ltb 0 o (omega arith)))
-    (λ e. let t = eqb-false o 0 e in rw (e, lt-ltb 0 o (omega arith)))
+    (λ e. by (eqb o' 0)
+    (λ f. let t = eqb-true o' 0 f in rw (e, f, le-ltb 0 o' (omega arith)))
+    (λ f. let t = eqb-false o' 0 f in rw (e, f, lt-ltb 0 o' (omega arith))))
+    (λ e. by (eqb o' 0)
+    (λ f. let t = eqb-true o' 0 f in rw (e, f, le-ltb 0 o' (omega arith)))
+    (λ f. let t = eqb-false o' 0 f in rw (e, f, lt-ltb 0 o' (omega arith))))
 
 module _ (p n o p' n' o' m : ℕ) where
   pub follows_rising : p < p' → follows (coded p n o 0) (coded p' n' o' m) ≡ eqb m 0

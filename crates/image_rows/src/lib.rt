@@ -1,7 +1,7 @@
 // The tests over all tuples of an image, on columns: one number of each tuple in each.
 #![tactic(auto)]
 
-ghost use Rattle.std.specs.Prelude.{◌≡◌, true, ◌&&◌, [], ℕ, ◌+◌, ◌<◌, ◌≤◌, length, take, drop, get_or, eqb};
+ghost use Rattle.std.specs.Prelude.{MatchOption, ◌≡◌, true, ◌&&◌, [], ℕ, ◌+◌, ◌<◌, ◌≤◌, length, take, drop, get_or, eqb};
 ghost use Rattle.basics.specs.Basics.{all, paired, is_in, distinct};
 ghost use Rattle.image_rows.specs.Rows.{statement_ok, follows, starts_well, is_below};
 ghost use Rattle.image_rows.specs.Columns.{coded, rows_in, columns_ok, ColumnsHold, OwnersHold};
@@ -25,14 +25,7 @@ const HEADS: usize = NO_KEY + 1;
 pub fn is_in(s: &[u32], from: usize, x: u32) -> bool
     ensures { result ≡ is_in x (drop from s.now) }
 {
-    let mut i = from;
-    while i < s.len() {
-        if x == s[i] {
-            return true;
-        }
-        i = i + 1;
-    }
-    false
+    s.iter().skip(from).any(|y| x == *y)
 }
 
 // The bucket of a key; 0 is no key.
@@ -40,24 +33,26 @@ fn bucket(x: u64) -> usize
     ensures { (result ≡ bucket_of x) × (result ≤ bucket_count) }
 {
     if x == 0 {
-        return NO_KEY;
+        NO_KEY
+    } else {
+        (x % BUCKETS) as usize
     }
-    (x % BUCKETS) as usize
 }
 
-// 1 + the last row of key x, looked for along its bucket's chain from row head - 1 down; 0 if it is not there.
-fn find(keys: &[u64], links: &[u16], head: usize, x: u64) -> usize
+// The last row of key x, looked for along its bucket's chain from row head - 1 down.
+// The loop follows links and counts nothing, so no `for` would be plainer.
+fn find(keys: &[u64], links: &[u16], head: usize, x: u64) -> Option<usize>
     requires { Chain keys.now links.now head x }
-    ensures { result ≡ last_by (eqb x) keys.now head }
+    ensures { MatchOption result (last_by (eqb x) keys.now head ≡ 0) (λ row. last_by (eqb x) keys.now head ≡ row + 1) }
 {
     let mut j = head;
     while 0 < j {
         if keys[j - 1] == x {
-            return j;
+            return Some(j - 1);
         }
-        j = links[j - 1] as usize;
+        j = usize::from(links[j - 1]);
     }
-    0
+    None
 }
 
 // Every key but 0 is there once. If so, the hash table of all rows is made.
@@ -66,17 +61,15 @@ fn link_all(keys: &[u64], count: usize, heads: &mut [u16], links: &mut [u16]) ->
     ensures once { result ≡ keys_once keys.now count }
     ensures made { result ≡ true → Table keys.now heads.new links.new count }
 {
-    let mut i: usize = 0;
-    while i < count {
+    for i in 0..count {
         let x = keys[i];
         let b = bucket(x);
         let head = heads[b];
-        if (0 < x) & (0 < find(keys, links, head as usize, x)) {
+        if 0 < x && find(keys, links, usize::from(head), x).is_some() {
             return false;
         }
         links[i] = head;
         heads[b] = (i + 1) as u16;
-        i = i + 1;
     }
     true
 }
@@ -86,10 +79,8 @@ fn to_keys(s: &[u32], keys: &mut [u64])
     requires { length s.now ≤ length keys.old }
     ensures { (i : ℕ) → i < length s.now → get_or keys.new i 0 ≡ get_or s.now i 0 + 1 }
 {
-    let mut i: usize = 0;
-    while i < s.len() {
-        keys[i] = s[i] as u64 + 1;
-        i = i + 1;
+    for (i, number) in s.iter().enumerate() {
+        keys[i] = u64::from(*number) + 1;
     }
 }
 
@@ -118,18 +109,14 @@ fn is_next(
     ensures { result ≡ is_next numbers.now owners.now count i }
 {
     let o = owners[i];
-    if o == 0 {
-        return true;
-    }
-    if (o - 1) % STATEMENTS == 0 {
+    if o == 0 || (o - 1) % STATEMENTS == 0 {
         return true;
     }
     let b = bucket(o - 1);
-    let j = find(owners, links, heads[b] as usize, o - 1);
-    if j == 0 {
-        return false;
+    match find(owners, links, usize::from(heads[b]), o - 1) {
+        Some(before) => numbers[before] < numbers[i],
+        None => false,
     }
-    numbers[j - 1] < numbers[i]
 }
 
 // The statements of each transaction rise with the numbers.
@@ -143,12 +130,10 @@ fn statements_rise(
     requires { (count ≤ length numbers.now) × Table owners.now heads.now links.now count }
     ensures { result ≡ statements_rise numbers.now owners.now count }
 {
-    let mut i: usize = 0;
-    while i < count {
+    for i in 0..count {
         if !is_next(numbers, owners, heads, links, count, i) {
             return false;
         }
-        i = i + 1;
     }
     true
 }
@@ -161,32 +146,18 @@ fn statements(numbers: &[u32], owners: &[u64], count: usize) -> bool
 {
     let mut heads = [0u16; HEADS];
     let mut links = [0u16; ROWS];
-    if !link_all(owners, count, &mut heads, &mut links) {
-        return false;
-    }
-    statements_rise(numbers, owners, &heads, &links, count)
+    link_all(owners, count, &mut heads, &mut links)
+        && statements_rise(numbers, owners, &heads, &links, count)
 }
 
 // The second row may come right after the first, whose mark does not matter.
 fn follows(p: u64, n: u32, o: u64, p2: u64, n2: u32, o2: u64, m2: u8) -> bool
     ensures { result ≡ follows (coded p n o 0) (coded p2 n2 o2 m2) }
 {
-    if p < p2 {
-        return m2 == 0;
-    }
     if p != p2 {
-        return false;
+        return p < p2 && m2 == 0;
     }
-    if n2 <= n {
-        return false;
-    }
-    if o == 0 {
-        return 0 < o2;
-    }
-    if o2 == 0 {
-        return false;
-    }
-    (o - 1) / STATEMENTS == (o2 - 1) / STATEMENTS
+    n < n2 && 0 < o2 && (o == 0 || (o - 1) / STATEMENTS == (o2 - 1) / STATEMENTS)
 }
 
 // The tuples rise, and each may follow the one before it.
@@ -201,15 +172,13 @@ pub fn rising(places: &[u64], numbers: &[u32], owners: &[u64], marks: &[u8], cou
     if marks[0] != 0 {
         return false;
     }
-    let mut i: usize = 1;
-    while i < count {
+    for i in 1..count {
         let j = i - 1;
         if !follows(
             places[j], numbers[j], owners[j], places[i], numbers[i], owners[i], marks[i],
         ) {
             return false;
         }
-        i = i + 1;
     }
     true
 }
@@ -219,24 +188,14 @@ pub fn below(numbers: &[u32], count: usize, next: u32) -> bool
     requires { count ≤ length numbers.now }
     ensures { result ≡ all (is_below next) (rows_in [] numbers.now [] [] count) }
 {
-    let mut i: usize = 0;
-    while i < count {
-        if next <= numbers[i] {
-            return false;
-        }
-        i = i + 1;
-    }
-    true
+    numbers[..count].iter().all(|number| *number < next)
 }
 
 // The code of statement 0 of some transaction.
 fn is_start(o: u64) -> bool
     ensures { result ≡ is_start o }
 {
-    if o == 0 {
-        return false;
-    }
-    (o - 1) % STATEMENTS == 0
+    o != 0 && (o - 1) % STATEMENTS == 0
 }
 
 // How many rows are a transaction's statement 0.
@@ -244,15 +203,7 @@ fn starts(owners: &[u64], count: usize) -> usize
     requires { count ≤ length owners.now }
     ensures { result ≡ starts owners.now count }
 {
-    let mut k: usize = 0;
-    let mut i: usize = 0;
-    while i < count {
-        if is_start(owners[i]) {
-            k = k + 1;
-        }
-        i = i + 1;
-    }
-    k
+    owners[..count].iter().filter(|o| is_start(**o)).count()
 }
 
 // All tests of `columns_ok`, on the rows in the columns.
@@ -268,17 +219,9 @@ pub fn columns_ok(
     requires columns_hold { ColumnsHold places.now numbers.now owners.now marks.now count }
     ensures { result ≡ columns_ok next (rows_in places.now numbers.now owners.now marks.now count) }
 {
-    if !rising(places, numbers, owners, marks, count) {
-        return false;
-    }
-    if !distinct(&numbers[..count]) {
-        return false;
-    }
-    if !below(numbers, count, next) {
-        return false;
-    }
-    if !statements(numbers, owners, count) {
-        return false;
-    }
-    starts(owners, count) <= OPEN_LIMIT
+    rising(places, numbers, owners, marks, count)
+        && distinct(&numbers[..count])
+        && below(numbers, count, next)
+        && statements(numbers, owners, count)
+        && starts(owners, count) <= OPEN_LIMIT
 }

@@ -14,35 +14,34 @@ pub record Written (c : Change) (bs xs : List ℕ) (Asked : Type 0) : Type 0 whe
   pub bytes : encode_record (change_is c bs) ≡ xs
 
 module _ {part bs : List ℕ} {tx : ℕ} where
-  pub open_part : ChangePart part (Open tx) bs → Written (Open tx) bs (short_bytes 1 tx) (ShortPart part 1 tx)
+  pub open_part : ChangePart part (Open tx) bs → Written (Open tx) bs (short_bytes 1 tx) (ShortPart part tx)
   unfolding change_is change_size log_fields
   open_part p = record {
-    asked = record { kind = omega arith; transaction = p.fits; size = omega (arith, p.size) };
+    asked = record { transaction = p.fits; size = omega (arith, p.size) };
     bytes = short_bytes_lem (opened_by tx) 1 tx refl (omega arith) p.fits;
   }
 
-  pub commit_part : ChangePart part (Commit tx) bs → Written (Commit tx) bs (short_bytes 5 tx) (ShortPart part 5 tx)
+  pub commit_part : ChangePart part (Commit tx) bs → Written (Commit tx) bs (short_bytes 5 tx) (ShortPart part tx)
   unfolding change_is change_size log_fields
   commit_part p = record {
-    asked = record { kind = omega arith; transaction = p.fits; size = omega (arith, p.size) };
+    asked = record { transaction = p.fits; size = omega (arith, p.size) };
     bytes = short_bytes_lem (committed_by tx) 5 tx refl (omega arith) p.fits;
   }
 
-  pub abort_part : ChangePart part (Abort tx) bs → Written (Abort tx) bs (short_bytes 6 tx) (ShortPart part 6 tx)
+  pub abort_part : ChangePart part (Abort tx) bs → Written (Abort tx) bs (short_bytes 6 tx) (ShortPart part tx)
   unfolding change_is change_size log_fields
   abort_part p = record {
-    asked = record { kind = omega arith; transaction = p.fits; size = omega (arith, p.size) };
+    asked = record { transaction = p.fits; size = omega (arith, p.size) };
     bytes = short_bytes_lem (aborted_by tx) 6 tx refl (omega arith) p.fits;
   }
 
 module _ {part bs : List ℕ} {tx t k n : ℕ} where
   pub insert_part : ChangePart part (Insert tx t k n) bs
-      → Written (Insert tx t k n) bs (place_bytes 2 tx t (length bs) k ++ bs) (TuplePart part 2 tx t (length bs))
+      → Written (Insert tx t k n) bs (place_bytes 2 tx t (length bs) k ++ bs) (TuplePart part tx t (length bs))
   unfolding change_is change_size log_fields entry_as
   insert_part p =
       let l : length bs ≡ n = let e = p.told in cc in record {
         asked = record {
-          kind = omega arith;
           transaction = p.fits.0.transaction;
           table = p.fits.0.table;
           limit = p.fits.1.limit;
@@ -52,12 +51,11 @@ module _ {part bs : List ℕ} {tx t k n : ℕ} where
       }
 
   pub replace_part : ChangePart part (Replace tx t k n) bs
-      → Written (Replace tx t k n) bs (place_bytes 3 tx t (length bs) k ++ bs) (TuplePart part 3 tx t (length bs))
+      → Written (Replace tx t k n) bs (place_bytes 3 tx t (length bs) k ++ bs) (TuplePart part tx t (length bs))
   unfolding change_is change_size log_fields entry_as
   replace_part p =
       let l : length bs ≡ n = let e = p.told in cc in record {
         asked = record {
-          kind = omega arith;
           transaction = p.fits.0.transaction;
           table = p.fits.0.table;
           limit = p.fits.1.limit;
@@ -67,10 +65,10 @@ module _ {part bs : List ℕ} {tx t k n : ℕ} where
       }
 
 module _ {part bs : List ℕ} {tx t k : ℕ} where
-  pub delete_part : ChangePart part (Delete tx t k) bs → Written (Delete tx t k) bs (place_bytes 4 tx t 0 k) (TuplePart part 4 tx t 0)
+  pub delete_part : ChangePart part (Delete tx t k) bs → Written (Delete tx t k) bs (place_bytes 4 tx t 0 k) (TuplePart part tx t 0)
   unfolding change_is change_size
   delete_part p = record {
-    asked = record { kind = omega arith; transaction = p.fits.transaction; table = p.fits.table; limit = omega arith; size = omega (arith, p.size) };
+    asked = record { transaction = p.fits.transaction; table = p.fits.table; limit = omega arith; size = omega (arith, p.size) };
     bytes = delete_bytes tx t k p.fits;
   }
 

@@ -3,7 +3,6 @@ use Rattle.basics.proofs.Kit.{◌≡◌, refl, sym, ap, ◌∙◌, List, [], ◌
 use Rattle.basics.proofs.Kit.{length-append, take-append-drop, ⊎_elim, ◌⊎◌, inl, inr, suc}
 use Rattle.basics.specs.Basics.{if'◌then◌else◌}
 use Rattle.basics.specs.Lists.{tab}
-use Rattle.basics.proofs.Numbers.{lt_or_ge}
 use Rattle.basics.proofs.Facts.{by-option}
 use Rattle.basics.proofs.Elements.{all_take, all_drop}
 use Rattle.basics.proofs.Tabs.{tab_part}
@@ -16,7 +15,9 @@ use Rattle.log_records.specs.Records.{LogRecord, opened_by, committed_by, aborte
 use Rattle.log_records.specs.Records.{short_fields, tuple_fields, log_fields, log_size, encode_record, decode_record, ended}
 use Rattle.log_records.specs.Laws.{Read}
 use Rattle.log_records.specs.Bytes.{place_bytes, transaction_of, length_of}
-use Rattle.log_records.specs.Entries.{entry_as, entry_of, entry_in}
+use Rattle.log_records.specs.Kinds.{number_of}
+use Rattle.log_records.specs.Entries.{entry_as, entry_of, entry_in, TupleFront}
+use Rattle.log_records.specs.declared.Kind.{Kind}
 use Rattle.log_records.specs.declared.Change.TheVariants.{Open, Insert, Replace, Delete, Commit, Abort}
 use Rattle.log_records.specs.declared.Entry.TheVariants.{End, Malformed, Call}
 use Rattle.log_records.proofs.Spelling.{two_bytes, length_encoded}
@@ -129,8 +130,10 @@ delete_front xs (deleted_by tx t k) d q =
 delete_front xs (mark_of l txs) d k = absurd (omega arith)
 
 module _ (xs : List ℕ) (b : AllBytes xs) where
-  pub tuple_none : (n : ℕ) → get_or xs 0 0 / 16 ≡ n → 2 ≤ n → n ≤ 3 → (PlaceFront xs → ⊥) → entry_of (decode_record xs) ≡ Malformed
-  tuple_none n k l m f = read_none xs b (λ r d e. f (tuple_front xs r d (omega arith) (omega arith)))
+  pub tuple_none : (k : Kind) → TupleFront xs k → (PlaceFront xs → ⊥) → entry_of (decode_record xs) ≡ Malformed
+  tuple_none k t f =
+      let n : number_of k ≡ 2 ⊎ number_of k ≡ 3 = ⊎_elim (λ e. inl (ap number_of e)) (λ e. inr (ap number_of e)) t.tuple in
+      read_none xs b (λ r d e. f (tuple_front xs r d (omega (arith, t.first)) (omega (arith, t.first))))
 
   pub delete_none : get_or xs 0 0 / 16 ≡ 4 → (PlaceFront xs → length_of xs ≡ 0 → ⊥) → entry_of (decode_record xs) ≡ Malformed
   delete_none k f = read_none xs b (λ r d e. let p = delete_front xs r d (e ∙ k) in f p.0 p.1)
@@ -197,9 +200,6 @@ module _ (xs : List ℕ) (b : AllBytes xs) (f : PlaceFront xs) where
       ∙ ap (λ n. place_bytes 4 (transaction_of xs) (get_or xs 2 0 / 32) n (num4 xs 4) ++ drop 8 xs) (sym l) ∙ place_spelled 4 h))
 
 -- ---- the front of any bytes
-
-pub five_six : (k : ℕ) → 5 ≤ k → k ≤ 6 → (k ≡ 5) ⊎ (k ≡ 6)
-five_six k l m = ⊎_elim (λ (h : k < 6). inl (omega arith)) (λ (h : 6 ≤ k). inr (omega arith)) (lt_or_ge k 6)
 
 kind_most : (r : LogRecord) → kind_of r ≤ 7
 kind_most (opened_by tx) = omega arith

@@ -1,16 +1,17 @@
 -- Records as values of the code, and what the code asks for.
-use Rattle.std.specs.Prelude.{ℕ, ◌+◌, ◌*◌, ◌/◌, ◌≤◌, ◌<◌, ◌-◌, ◌≡◌, Bool, true, false, ◌⊎◌, List, length, get_or, eqb}
+use Rattle.std.specs.Prelude.{ℕ, ◌+◌, ◌*◌, ◌/◌, ◌≤◌, ◌<◌, ◌-◌, ◌≡◌, List, length, get_or, Some, None}
+use Rattle.std.specs.Prelude.{Option as Place}
 use Rattle.std.proofs.Math.Option.{Option, none, some}
 use Rattle.basics.specs.Basics.{if'◌then◌else◌}
 use Rattle.block_forms.specs.Limits.{payload_limit, transaction_limit, most_number}
 use Rattle.image_rows.specs.Rows.{open_limit}
 use Rattle.log_records.specs.Records.{LogRecord, opened_by, committed_by, aborted_by, inserted_by, replaced_by, deleted_by, mark_of, RecordFits, decode_record, ended, end_of, from_mark}
+use Rattle.log_records.specs.Kinds.{number_of, IsShort, IsTuple}
+use Rattle.log_records.specs.declared.Kind.{Kind}
 use Rattle.log_records.specs.declared.Change.{Change}
 use Rattle.log_records.specs.declared.Change.TheVariants.{Open, Insert, Replace, Delete, Commit, Abort}
 use Rattle.log_records.specs.declared.Entry.{Entry}
 use Rattle.log_records.specs.declared.Entry.TheVariants.{End, Malformed, Call, Mark}
-use Rattle.log_records.specs.declared.LogEnd.{LogEnd}
-use Rattle.log_records.specs.declared.MarkPlace.{MarkPlace}
 
 -- ---- values of the code and of the specification
 
@@ -80,10 +81,10 @@ entry_size Malformed = 0
 entry_size (Call c) = change_size c
 entry_size (Mark l n) = mark_size n
 
--- whether a log is whole, and where it ends
-unfoldable pub log_end : Option (List LogRecord) → LogEnd
-log_end none = record { whole = false; end = 0 }
-log_end (some rs) = record { whole = true; end = end_of rs }
+-- where a log ends; none if it is malformed
+unfoldable pub log_end : Option (List LogRecord) → Place ℕ
+log_end none = None
+log_end (some rs) = Some (end_of rs)
 
 -- ---- writing
 
@@ -108,8 +109,7 @@ pub record ChangePart (part : List ℕ) (c : Change) (bs : List ℕ) : Type 0 wh
   pub size : length part + 1 ≡ change_size c
 
 -- kind and transaction
-pub record ShortPart (part : List ℕ) (n tx : ℕ) : Type 0 where
-  pub kind : n < 16
+pub record ShortPart (part : List ℕ) (tx : ℕ) : Type 0 where
   pub transaction : tx < transaction_limit
   pub size : length part ≡ 1
 
@@ -120,8 +120,7 @@ pub record PlacePart (part : List ℕ) (t len : ℕ) : Type 0 where
   pub size : 7 ≤ length part
 
 -- kind, transaction, table, payload length, key and payload
-pub record TuplePart (part : List ℕ) (n tx t len : ℕ) : Type 0 where
-  pub kind : n < 16
+pub record TuplePart (part : List ℕ) (tx t len : ℕ) : Type 0 where
   pub transaction : tx < transaction_limit
   pub table : t < 8
   pub limit : len ≤ payload_limit
@@ -140,15 +139,14 @@ pub record EntriesPart (part txs : List ℕ) : Type 0 where
 -- ---- what each part of the reading asks for: bytes whose first one has the kind that it is for
 
 -- open, commit or abort
-pub record ShortFront (xs : List ℕ) (n : ℕ) : Type 0 where
-  pub first : get_or xs 0 0 / 16 ≡ n
-  pub short : (n ≡ 1) ⊎ ((n ≡ 5) ⊎ (n ≡ 6))
+pub record ShortFront (xs : List ℕ) (k : Kind) : Type 0 where
+  pub first : get_or xs 0 0 / 16 ≡ number_of k
+  pub short : IsShort k
 
 -- insert or replace
-pub record TupleFront (xs : List ℕ) (n : ℕ) : Type 0 where
-  pub first : get_or xs 0 0 / 16 ≡ n
-  pub least : 2 ≤ n
-  pub most : n ≤ 3
+pub record TupleFront (xs : List ℕ) (k : Kind) : Type 0 where
+  pub first : get_or xs 0 0 / 16 ≡ number_of k
+  pub tuple : IsTuple k
 
 -- a mark's transaction i stands in the log whose mark is at byte at
 pub record MarkAt (log : List ℕ) (at i : ℕ) : Type 0 where
@@ -157,25 +155,7 @@ pub record MarkAt (log : List ℕ) (at i : ℕ) : Type 0 where
 
 -- ---- whole logs
 
--- the log ends there
-unfoldable pub is_end : Entry → Bool
-is_end End = true
-is_end Malformed = false
-is_end (Call c) = false
-is_end (Mark l n) = false
-
--- a mark of level l stands there
-unfoldable pub mark_in : ℕ → Entry → Bool
-mark_in l End = false
-mark_in l Malformed = false
-mark_in l (Call c) = false
-mark_in l (Mark m n) = eqb m l
-
--- no mark
-abbrev pub no_place : MarkPlace
-no_place = record { found = false; at = 0 }
-
 -- the place of the last mark of level l in a log with these records, if there is one
-unfoldable pub last_mark : ℕ → Option (List LogRecord) → MarkPlace
-last_mark l none = no_place
-last_mark l (some rs) = elim (from_mark l rs) [ none ↦ no_place | some qs ↦ record { found = true; at = end_of rs - end_of qs } ]
+unfoldable pub last_mark : ℕ → Option (List LogRecord) → Place ℕ
+last_mark l none = None
+last_mark l (some rs) = elim (from_mark l rs) [ none ↦ None | some qs ↦ Some (end_of rs - end_of qs) ]

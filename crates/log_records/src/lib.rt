@@ -1,21 +1,21 @@
-// The redo log's records as bytes. A record is written by two stores, each one call lent only its bytes: all behind the first byte, then that byte,
-// which is never zero. So a record that is cut reads as the log's end.
+// The redo log's records as bytes. A record is written by two stores: one call is lent just the bytes behind the first and puts them, then the
+// first byte is put, which is never zero. So a record that is cut reads as the log's end.
 #![tactic(auto)]
 
-ghost use Rattle.std.specs.Prelude.{◌≡◌, [], ◌∷◌, ◌++◌, ◌+◌, ◌*◌, ◌/◌, ◌%◌, ◌<◌, ◌≤◌, length, drop, get_or};
+ghost use Rattle.std.specs.Prelude.{◌≡◌, ◌∷◌, ◌++◌, ◌+◌, ◌*◌, ◌/◌, ◌<◌, ◌≤◌, length, drop, get_or};
 ghost use Rattle.basics.specs.Lists.{over};
 ghost use Rattle.block_bits.specs.Bits.{bits_in, field};
 ghost use Rattle.block_forms.specs.Limits.{transaction_limit, most_number};
-ghost use Rattle.block_forms.specs.Numbers.{num4};
 ghost use Rattle.block_forms.specs.Spell.{zeros};
+ghost use Rattle.log_records.specs.Kinds.{number_of, HasNumber};
 ghost use Rattle.log_records.specs.Records.{mark_of, encode_record, decode_record, read_log};
 ghost use Rattle.log_records.specs.Bytes.{short_bytes, place_rest, place_bytes, entry_bytes, transaction_of};
-ghost use Rattle.log_records.specs.Entries.{change_is, entry_of, entry_in, Small, SmallEntry, change_size, mark_size, entry_size, log_end, is_end, mark_in, last_mark};
+ghost use Rattle.log_records.specs.Entries.{change_is, entry_of, entry_in, Small, SmallEntry, change_size, mark_size, entry_size, log_end, last_mark};
 ghost use Rattle.log_records.specs.Entries.{ChangePart, ShortPart, PlacePart, TuplePart, Room, MarkPart, EntriesPart, MarkRoom, ShortFront, TupleFront, MarkAt};
 
 use block_forms::PageLayout;
 
-// What a call changed. The payload of an insert or a replace, of len bytes, stands beside it.
+// What a call changed, one variant for each kind of record. The payload of an insert or a replace, of len bytes, stands beside it.
 #[derive(Clone, Copy)]
 pub enum Change {
     Open {
@@ -47,6 +47,7 @@ pub enum Change {
 }
 
 // What stands somewhere in a log: its end, bytes that are no record, a call's record, or a mark with a count of transactions.
+// (One enum: a Result of an Option would name the same four cases in three layers.)
 #[derive(Clone, Copy)]
 pub enum Entry {
     End,
@@ -55,37 +56,43 @@ pub enum Entry {
     Mark { level: u32, count: usize },
 }
 
-// Whether a log is whole, and where its records end.
-#[derive(Clone, Copy)]
-pub struct LogEnd {
-    pub whole: bool,
-    pub end: usize,
+// The kinds of records. A kind's number is the upper four bits of the first byte.
+#[derive(Clone, Copy, Debug, PartialEq, Eq)]
+enum Kind {
+    Open = 1,
+    Insert = 2,
+    Replace = 3,
+    Delete = 4,
+    Commit = 5,
+    Abort = 6,
+    Mark = 7,
 }
 
-// Whether a mark was found, and where it stands.
-#[derive(Clone, Copy)]
-pub struct MarkPlace {
-    pub found: bool,
-    pub at: usize,
+// A number that no kind has.
+#[derive(Clone, Copy, Debug, PartialEq, Eq)]
+struct UnknownKind(u8);
+
+impl TryFrom<u8> for Kind {
+    type Error = UnknownKind;
+
+    ghost try_from_gives = { HasNumber };
+
+    fn try_from(number: u8) -> Result<Self, UnknownKind> {
+        match number {
+            1 => Ok(Kind::Open),
+            2 => Ok(Kind::Insert),
+            3 => Ok(Kind::Replace),
+            4 => Ok(Kind::Delete),
+            5 => Ok(Kind::Commit),
+            6 => Ok(Kind::Abort),
+            7 => Ok(Kind::Mark),
+            _ => Err(UnknownKind(number)),
+        }
+    }
 }
 
 // At most this many transactions are open.
 const OPEN_LIMIT: usize = image_rows::OPEN_LIMIT;
-
-// The kinds of records: the upper four bits of the first byte.
-const OPEN: u8 = 1;
-
-const INSERT: u8 = 2;
-
-const REPLACE: u8 = 3;
-
-const DELETE: u8 = 4;
-
-const COMMIT: u8 = 5;
-
-const ABORT: u8 = 6;
-
-const MARK: u8 = 7;
 
 // The bytes of a record that has a kind and a transaction alone; those before a payload.
 pub const SHORT: usize = 2;
@@ -105,26 +112,9 @@ pub fn change_size(c: Change) -> usize
     ensures { result ≡ change_size c }
 {
     match c {
-        Change::Insert {
-            transaction: _,
-            table: _,
-            key: _,
-            len: n,
-        } => PLACE + n,
-        Change::Replace {
-            transaction: _,
-            table: _,
-            key: _,
-            len: n,
-        } => PLACE + n,
-        Change::Delete {
-            transaction: _,
-            table: _,
-            key: _,
-        } => PLACE,
-        Change::Open { transaction: _ } => SHORT,
-        Change::Commit { transaction: _ } => SHORT,
-        Change::Abort { transaction: _ } => SHORT,
+        Change::Insert { len, .. } | Change::Replace { len, .. } => PLACE + len,
+        Change::Delete { .. } => PLACE,
+        Change::Open { .. } | Change::Commit { .. } | Change::Abort { .. } => SHORT,
     }
 }
 
@@ -142,33 +132,26 @@ pub fn entry_size(e: Entry) -> usize
     ensures { result ≡ entry_size e }
 {
     match e {
-        Entry::End => 0,
-        Entry::Malformed => 0,
+        Entry::End | Entry::Malformed => 0,
         Entry::Call(c) => change_size(c),
-        Entry::Mark { level: _, count: n } => mark_size(n),
+        Entry::Mark { count, .. } => mark_size(count),
     }
-}
-
-fn wide(x: u32) -> u64
-    ensures { result ≡ x }
-{
-    x as u64
 }
 
 // ---- writing
 
 // A record's first byte: its kind and the upper bits of its transaction.
-fn first_byte(kind: u8, transaction: u32) -> u8
-    requires { (kind < 16) × (transaction < transaction_limit) }
-    ensures { result ≡ kind * 16 + transaction / 256 }
+fn first_byte(kind: Kind, transaction: u32) -> u8
+    requires { transaction < transaction_limit }
+    ensures { result ≡ number_of kind * 16 + transaction / 256 }
 {
-    kind * 16 + (transaction / 256) as u8
+    kind as u8 * 16 + (transaction / 256) as u8
 }
 
 // Puts what stands behind the first byte of a record of kind and transaction; answers the first byte.
-fn put_short(part: &mut [u8], kind: u8, transaction: u32) -> u8
-    requires { ShortPart part.old kind transaction }
-    ensures { result ∷ part.new ≡ short_bytes kind transaction }
+fn put_short(part: &mut [u8], kind: Kind, transaction: u32) -> u8
+    requires { ShortPart part.old transaction }
+    ensures { result ∷ part.new ≡ short_bytes (number_of kind) transaction }
 {
     part[0] = (transaction % 256) as u8;
     first_byte(kind, transaction)
@@ -188,28 +171,27 @@ fn put_place(part: &mut [u8], transaction: u32, table: u32, key: u32, len: usize
 // Puts what stands behind the first byte of an insert or a replace; answers the first byte.
 fn put_tuple(
     part: &mut [u8],
-    kind: u8,
+    kind: Kind,
     transaction: u32,
     table: u32,
     key: u32,
     payload: &[u8],
 ) -> u8
-    requires { TuplePart part.old kind transaction table (length payload.now) }
-    ensures { result ∷ part.new ≡ place_bytes kind transaction table (length payload.now) key ++ payload.now }
+    requires { TuplePart part.old transaction table (length payload.now) }
+    ensures { result ∷ part.new ≡ place_bytes (number_of kind) transaction table (length payload.now) key ++ payload.now }
 {
-    let len = payload.len();
-    put_place(part, transaction, table, key, len);
-    block_forms::copy(part, PLACE - 1, payload, 0, len);
+    put_place(part, transaction, table, key, payload.len());
+    part[PLACE - 1..].copy_from_slice(payload);
     first_byte(kind, transaction)
 }
 
 // Puts what stands behind the first byte of a delete; answers the first byte.
 fn put_delete(part: &mut [u8], transaction: u32, table: u32, key: u32) -> u8
-    requires { TuplePart part.old 4 transaction table 0 }
+    requires { TuplePart part.old transaction table 0 }
     ensures { result ∷ part.new ≡ place_bytes 4 transaction table 0 key }
 {
     put_place(part, transaction, table, key, 0);
-    first_byte(DELETE, transaction)
+    first_byte(Kind::Delete, transaction)
 }
 
 // Puts all of a change's record behind its first byte; answers the first byte.
@@ -218,35 +200,27 @@ fn put_behind(part: &mut [u8], c: Change, payload: &[u8]) -> u8
     ensures { result ∷ part.new ≡ encode_record (change_is c payload.now) }
 {
     match c {
-        Change::Open { transaction: tx } => put_short(part, OPEN, tx),
+        Change::Open { transaction } => put_short(part, Kind::Open, transaction),
         Change::Insert {
-            transaction: tx,
-            table: t,
-            key: k,
-            len: _,
-        } => put_tuple(part, INSERT, tx, t, k, payload),
+            transaction,
+            table,
+            key,
+            ..
+        } => put_tuple(part, Kind::Insert, transaction, table, key, payload),
         Change::Replace {
-            transaction: tx,
-            table: t,
-            key: k,
-            len: _,
-        } => put_tuple(part, REPLACE, tx, t, k, payload),
+            transaction,
+            table,
+            key,
+            ..
+        } => put_tuple(part, Kind::Replace, transaction, table, key, payload),
         Change::Delete {
-            transaction: tx,
-            table: t,
-            key: k,
-        } => put_delete(part, tx, t, k),
-        Change::Commit { transaction: tx } => put_short(part, COMMIT, tx),
-        Change::Abort { transaction: tx } => put_short(part, ABORT, tx),
+            transaction,
+            table,
+            key,
+        } => put_delete(part, transaction, table, key),
+        Change::Commit { transaction } => put_short(part, Kind::Commit, transaction),
+        Change::Abort { transaction } => put_short(part, Kind::Abort, transaction),
     }
-}
-
-// Puts a record's first byte.
-fn put_first(part: &mut [u8], first: u8)
-    requires { length part.old ≡ 1 }
-    ensures { part.new ≡ first ∷ [] }
-{
-    part[0] = first;
 }
 
 // Writes the record of a change at the log's end.
@@ -254,10 +228,8 @@ pub fn append(log: &mut [u8], end: usize, c: Change, payload: &[u8])
     requires { Room log.old end c payload.now }
     ensures { log.new ≡ over log.old end (encode_record (change_is c payload.now)) }
 {
-    let second = end + 1;
     let behind = end + change_size(c);
-    let first = put_behind(&mut log[second..behind], c, payload);
-    put_first(&mut log[end..second], first);
+    log[end] = put_behind(&mut log[end + 1..behind], c, payload);
 }
 
 // Puts a mark's transactions, and zero bits to a whole byte.
@@ -266,15 +238,9 @@ fn put_transactions(part: &mut [u8], transactions: &[u32])
     ensures { part.new ≡ entry_bytes transactions.now }
 {
     let n = transactions.len();
-    let mut i: usize = 0;
-    while i < n {
-        block_bits::put_bits(
-            part,
-            TRANSACTION_BITS * i,
-            TRANSACTION_BITS,
-            wide(transactions[i]),
-        );
-        i = i + 1;
+    for i in 0..n {
+        let transaction = u64::from(transactions[i]);
+        block_bits::put_bits(part, TRANSACTION_BITS * i, TRANSACTION_BITS, transaction);
     }
     block_bits::put_bits(part, TRANSACTION_BITS * n, 4 * (n % 2), 0);
 }
@@ -288,7 +254,7 @@ fn put_mark_behind(part: &mut [u8], level: u32, transactions: &[u32]) -> u8
     part[0] = (n % 8 * 32) as u8;
     block_forms::put4(part, 1, level);
     put_transactions(&mut part[MARK_HEAD - 1..], transactions);
-    MARK * 16 + (n / 8) as u8
+    Kind::Mark as u8 * 16 + (n / 8) as u8
 }
 
 // Writes a mark at the log's end.
@@ -296,74 +262,53 @@ pub fn append_mark(log: &mut [u8], end: usize, level: u32, transactions: &[u32])
     requires { MarkRoom log.old end level transactions.now }
     ensures { log.new ≡ over log.old end (encode_record (mark_of level transactions.now)) }
 {
-    let second = end + 1;
     let behind = end + mark_size(transactions.len());
-    let first = put_mark_behind(&mut log[second..behind], level, transactions);
-    put_first(&mut log[end..second], first);
+    log[end] = put_mark_behind(&mut log[end + 1..behind], level, transactions);
 }
 
 // Zeroes the bytes lent.
 pub fn clear(part: &mut [u8])
     ensures { part.new ≡ zeros (length part.old) }
 {
-    let n = part.len();
-    let mut i: usize = 0;
-    while i < n {
-        part[i] = 0;
-        i = i + 1;
-    }
+    part.fill(0);
 }
 
 // ---- reading
-
-fn word(x: u8) -> u32
-    ensures { (result ≡ x) × (result < 256) }
-{
-    x as u32
-}
-
-// The number in four bytes, high byte first.
-fn four_bytes(xs: &[u8], at: usize) -> u32
-    requires { at + 4 ≤ length xs.now }
-    ensures { result ≡ num4 xs.now at }
-{
-    word(xs[at]) * 16777216 + word(xs[at + 1]) * 65536 + word(xs[at + 2]) * 256 + word(xs[at + 3])
-}
 
 // The transaction in a record's first two bytes.
 fn transaction_of(xs: &[u8]) -> u32
     requires { 2 ≤ length xs.now }
     ensures { result ≡ transaction_of xs.now }
 {
-    word(xs[0]) % 16 * 256 + word(xs[1])
+    u32::from(xs[0]) % 16 * 256 + u32::from(xs[1])
 }
 
 // An open, a commit or an abort at the front of the bytes.
-fn short_front(xs: &[u8], kind: u8) -> Entry
+fn short_front(xs: &[u8], kind: Kind) -> Entry
     requires { ShortFront xs.now kind }
     ensures { result ≡ entry_of (decode_record xs.now) }
 {
     if xs.len() < 2 {
         return Entry::Malformed;
     }
-    let tx = transaction_of(xs);
-    match kind {
-        OPEN => Entry::Call(Change::Open { transaction: tx }),
-        COMMIT => Entry::Call(Change::Commit { transaction: tx }),
-        _ => Entry::Call(Change::Abort { transaction: tx }),
-    }
+    let transaction = transaction_of(xs);
+    Entry::Call(match kind {
+        Kind::Open => Change::Open { transaction },
+        Kind::Commit => Change::Commit { transaction },
+        _ => Change::Abort { transaction },
+    })
 }
 
 // An insert or a replace at the front of the bytes.
-fn tuple_front(xs: &[u8], kind: u8) -> Entry
+fn tuple_front(xs: &[u8], kind: Kind) -> Entry
     requires { TupleFront xs.now kind }
     ensures { result ≡ entry_of (decode_record xs.now) }
 {
     if xs.len() < PLACE {
         return Entry::Malformed;
     }
-    let third = word(xs[2]);
-    let fourth = word(xs[3]);
+    let third = u32::from(xs[2]);
+    let fourth = u32::from(xs[3]);
     if fourth % 128 != 0 {
         return Entry::Malformed;
     }
@@ -374,21 +319,22 @@ fn tuple_front(xs: &[u8], kind: u8) -> Entry
     if xs.len() < PLACE + len {
         return Entry::Malformed;
     }
-    let tx = transaction_of(xs);
-    let key = four_bytes(xs, 4);
-    if kind == INSERT {
-        return Entry::Call(Change::Insert {
-            transaction: tx,
-            table: third / 32,
-            key: key,
-            len: len,
-        });
-    }
-    Entry::Call(Change::Replace {
-        transaction: tx,
-        table: third / 32,
-        key: key,
-        len: len,
+    let transaction = transaction_of(xs);
+    let table = third / 32;
+    let key = block_forms::get4(xs, 4);
+    Entry::Call(match kind {
+        Kind::Insert => Change::Insert {
+            transaction,
+            table,
+            key,
+            len,
+        },
+        _ => Change::Replace {
+            transaction,
+            table,
+            key,
+            len,
+        },
     })
 }
 
@@ -400,14 +346,14 @@ fn delete_front(xs: &[u8]) -> Entry
     if xs.len() < PLACE {
         return Entry::Malformed;
     }
-    let third = word(xs[2]);
-    if third % 32 * 256 + word(xs[3]) != 0 {
+    let third = u32::from(xs[2]);
+    if third % 32 * 256 + u32::from(xs[3]) != 0 {
         return Entry::Malformed;
     }
     Entry::Call(Change::Delete {
         transaction: transaction_of(xs),
         table: third / 32,
-        key: four_bytes(xs, 4),
+        key: block_forms::get4(xs, 4),
     })
 }
 
@@ -419,11 +365,11 @@ fn mark_front(xs: &[u8]) -> Entry
     if xs.len() < MARK_HEAD {
         return Entry::Malformed;
     }
-    let second = word(xs[1]);
+    let second = u32::from(xs[1]);
     if second % 32 != 0 {
         return Entry::Malformed;
     }
-    let count = (word(xs[0]) % 16 * 8 + second / 32) as usize;
+    let count = (u32::from(xs[0]) % 16 * 8 + second / 32) as usize;
     if OPEN_LIMIT < count {
         return Entry::Malformed;
     }
@@ -439,8 +385,8 @@ fn mark_front(xs: &[u8]) -> Entry
         return Entry::Malformed;
     }
     Entry::Mark {
-        level: four_bytes(xs, 2),
-        count: count,
+        level: block_forms::get4(xs, 2),
+        count,
     }
 }
 
@@ -448,20 +394,20 @@ fn mark_front(xs: &[u8]) -> Entry
 fn front(xs: &[u8]) -> Entry
     ensures { result ≡ entry_in xs.now }
 {
-    if xs.len() == 0 {
+    let Some(&first) = xs.first() else {
         return Entry::End;
-    }
-    let first = xs[0];
+    };
     if first == 0 {
         return Entry::End;
     }
-    let kind = first / 16;
+    let Ok(kind) = Kind::try_from(first / 16) else {
+        return Entry::Malformed;
+    };
     match kind {
-        OPEN | COMMIT | ABORT => short_front(xs, kind),
-        INSERT | REPLACE => tuple_front(xs, kind),
-        DELETE => delete_front(xs),
-        MARK => mark_front(xs),
-        _ => Entry::Malformed,
+        Kind::Open | Kind::Commit | Kind::Abort => short_front(xs, kind),
+        Kind::Insert | Kind::Replace => tuple_front(xs, kind),
+        Kind::Delete => delete_front(xs),
+        Kind::Mark => mark_front(xs),
     }
 }
 
@@ -487,80 +433,42 @@ pub fn mark_transaction(log: &[u8], at: usize, i: usize) -> u32
 
 // ---- whole logs
 
-// Whether the log ends there.
-fn is_end(e: Entry) -> bool
-    ensures { result ≡ is_end e }
-{
-    match e {
-        Entry::End => true,
-        Entry::Malformed => false,
-        Entry::Call(_) => false,
-        Entry::Mark { level: _, count: _ } => false,
-    }
-}
+// Both walks go from record to record, by the size of what stands there. (Two short loops: a walk with a closure for the records would be longer.)
 
-// Whether every record of the log is well formed, and where they end.
-pub fn check_log(log: &[u8]) -> LogEnd
+// Where the log's records end; none if one of them is malformed.
+pub fn check_log(log: &[u8]) -> Option<usize>
     ensures { result ≡ log_end (read_log log.now) }
 {
-    let mut at: usize = 0;
+    let mut at = 0;
     loop {
         let e = entry_at(log, at);
-        let size = entry_size(e);
-        if size == 0 {
-            if is_end(e) {
-                return LogEnd {
-                    whole: true,
-                    end: at,
-                };
-            }
-            return LogEnd {
-                whole: false,
-                end: 0,
-            };
+        match e {
+            Entry::End => return Some(at),
+            Entry::Malformed => return None,
+            _ => at += entry_size(e),
         }
-        at = at + size;
-    }
-}
-
-// Whether a mark of the level stands there.
-fn is_mark(e: Entry, level: u32) -> bool
-    ensures { result ≡ mark_in level e }
-{
-    match e {
-        Entry::End => false,
-        Entry::Malformed => false,
-        Entry::Call(_) => false,
-        Entry::Mark { level: l, count: _ } => l == level,
     }
 }
 
 // The place of the last mark of a level; none in a log that is not whole.
-pub fn last_mark(log: &[u8], level: u32) -> MarkPlace
+pub fn last_mark(log: &[u8], level: u32) -> Option<usize>
     ensures { result ≡ last_mark level (read_log log.now) }
 {
-    let mut found = false;
-    let mut place: usize = 0;
-    let mut at: usize = 0;
+    let mut place = None;
+    let mut at = 0;
     loop {
         let e = entry_at(log, at);
         let size = entry_size(e);
-        if size == 0 {
-            if is_end(e) {
-                return MarkPlace {
-                    found: found,
-                    at: place,
-                };
+        match e {
+            Entry::End => return place,
+            Entry::Malformed => return None,
+            Entry::Call(_) => {}
+            Entry::Mark { level: l, .. } => {
+                if l == level {
+                    place = Some(at);
+                }
             }
-            return MarkPlace {
-                found: false,
-                at: 0,
-            };
         }
-        if is_mark(e, level) {
-            found = true;
-            place = at;
-        }
-        at = at + size;
+        at += size;
     }
 }

@@ -1,145 +1,24 @@
--- One turn of each loop that changes bytes.
-use Rattle.basics.proofs.Kit.{◌≡◌, refl, sym, ap, ◌∙◌, subst, ⊎_elim, List, [], ◌∷◌, ℕ, ◌+◌, ◌*◌, ◌%◌, ◌≤◌, ◌<◌, ◌-◌, add-zero, zero-add, length, get_or, set, length-set, get_or-set_same}
+-- Changes of bytes: one is written, and the numbers of a column are d more.
+use Rattle.basics.proofs.Kit.{◌≡◌, refl, sym, ap, ◌∙◌, subst, ⊎_elim, List, [], ◌∷◌, ℕ, ◌+◌, ◌*◌, ◌%◌, ◌≤◌, ◌<◌, add-zero, length, get_or, set, length-set, get_or-set_same}
 use Rattle.basics.proofs.Kit.{get_or-set_other, arith}
-use Rattle.memory_bytes.specs.Bytes.{le2, bytes2, Raised, Lowered, Wrote, Added}
+use Rattle.memory_bytes.specs.Bytes.{le2, bytes2, Wrote, Added}
 use Rattle.basics.proofs.Tabs.{lt_or_ge}
 use Rattle.memory_bytes.proofs.Bytes.{le2_below, le2_above, le2_wrote}
 
--- ---- bytes go up by w: those from k on have
-
-pub record Raising (m m' : List ℕ) (hi w k : ℕ) : Type 0 where
-  pub size : length m' ≡ length m
-  pub done : (b : ℕ) → k ≤ b → b < hi → get_or m' (b + w) 0 ≡ get_or m b 0
-  pub left : (b : ℕ) → b < k + w → get_or m' b 0 ≡ get_or m b 0
-  pub above : (b : ℕ) → hi + w ≤ b → get_or m' b 0 ≡ get_or m b 0
-
-pub raise_start : (m : List ℕ) (hi w : ℕ) → Raising m m hi w hi
-raise_start m hi w = record { size = refl; done = λ b p q. absurd (omega arith); left = λ b p. refl; above = λ b p. refl }
-
-pub raise_iteration : {m m' : List ℕ} {hi w k : ℕ} → Raising m m' hi w k → 0 < k → k ≤ hi → hi + w ≤ length m
-    → Raising m (set m' (k - 1 + w) (get_or m' (k - 1) 0)) hi w (k - 1)
-raise_iteration {m} {m'} {hi} {w} {k} s h1 h2 h3 =
-    let v : ℕ = get_or m' (k - 1) 0 in
-    let at : ℕ = k - 1 + w in
-    let l : length m' ≡ length m = s.size in
+-- one byte is written
+pub wrote1 : (m : List ℕ) (a v : ℕ) → a < length m → Wrote m (set m a v) a (v ∷ [])
+wrote1 m a v h =
     record {
-      size = length-set m' at v ∙ l;
-      done = λ b p q. ⊎_elim
-          (λ r. get_or-set_other m' at (b + w) v 0 (λ z. omega arith) ∙ s.done b (omega arith) q)
-          (λ r.
-          let e : b + w ≡ at = omega arith in
-          let e2 : k - 1 ≡ b = omega arith in
-          ap (λ (z : ℕ). get_or (set m' at v) z 0) e
-          ∙ get_or-set_same m' at v 0 (omega arith)
-          ∙ s.left (k - 1) (omega arith)
-          ∙ ap (λ (z : ℕ). get_or m z 0) e2)
-          (lt_or_ge (k - 1) b);
-      left = λ b p. get_or-set_other m' at b v 0 (λ z. omega arith) ∙ s.left b (omega arith);
-      above = λ b p. get_or-set_other m' at b v 0 (λ z. omega arith) ∙ s.above b p;
+      apart =
+          record {
+            size = length-set m a v;
+            below = λ b p. get_or-set_other m a b v 0 (λ z. omega arith);
+            above = λ b p. get_or-set_other m a b v 0 (λ z. omega arith);
+          };
+      here = λ k p.
+          let e : 0 ≡ k = omega arith in
+          subst (λ (z : ℕ). get_or (set m a v) (a + z) 0 ≡ get_or (v ∷ []) z 0) e (rw add-zero (get_or-set_same m a v 0 h));
     }
-
-pub raise_end : {m m' : List ℕ} {hi w k : ℕ} (lo : ℕ) → Raising m m' hi w k → lo ≤ k → k ≤ lo → lo ≤ hi → Raised m m' lo hi w
-raise_end lo s p q r =
-    record {
-      apart = record { size = s.size; below = λ b h. s.left b (omega arith); above = λ b h. s.above b (omega arith) };
-      moved = λ b h1 h2. s.done b (omega arith) h2;
-    }
-
--- ---- bytes go down by w: those below k have
-
-pub record Lowering (m m' : List ℕ) (lo w k : ℕ) : Type 0 where
-  pub size : length m' ≡ length m
-  pub below : (b : ℕ) → b < lo → get_or m' b 0 ≡ get_or m b 0
-  pub done : (b : ℕ) → lo ≤ b → b < k → get_or m' b 0 ≡ get_or m (b + w) 0
-  pub left : (b : ℕ) → k ≤ b → get_or m' b 0 ≡ get_or m b 0
-
-pub lower_start : (m : List ℕ) (lo w : ℕ) → Lowering m m lo w lo
-lower_start m lo w = record { size = refl; below = λ b p. refl; done = λ b p q. absurd (omega arith); left = λ b p. refl }
-
-pub lower_iteration : {m m' : List ℕ} {lo w k : ℕ} → Lowering m m' lo w k → lo ≤ k → k < length m
-    → Lowering m (set m' k (get_or m' (k + w) 0)) lo w (k + 1)
-lower_iteration {m} {m'} {lo} {w} {k} s h1 h2 =
-    let v : ℕ = get_or m' (k + w) 0 in
-    let l : length m' ≡ length m = s.size in
-    record {
-      size = length-set m' k v ∙ l;
-      below = λ b p. get_or-set_other m' k b v 0 (λ z. omega arith) ∙ s.below b p;
-      done = λ b p q. ⊎_elim
-          (λ r. get_or-set_other m' k b v 0 (λ z. omega arith) ∙ s.done b p r)
-          (λ r.
-          let e : b ≡ k = omega arith in
-          ap (λ (z : ℕ). get_or (set m' k v) z 0) e
-          ∙ get_or-set_same m' k v 0 (omega arith)
-          ∙ s.left (k + w) (omega arith)
-          ∙ ap (λ (z : ℕ). get_or m (z + w) 0) (sym e))
-          (lt_or_ge b k);
-      left = λ b p. get_or-set_other m' k b v 0 (λ z. omega arith) ∙ s.left b (omega arith);
-    }
-
-pub lower_end : {m m' : List ℕ} {lo w k : ℕ} (hi : ℕ) → Lowering m m' lo w k → lo ≤ k → hi ≤ k + w → k ≤ hi → Lowered m m' lo hi w
-lower_end hi s p q r =
-    record {
-      apart = record { size = s.size; below = s.below; above = λ b h. s.left b (omega arith) };
-      moved = λ b h1 h2. s.done b h1 (omega arith);
-    }
-
--- ---- bytes are written: the first j of them are
-
-pub record Writing (m m' : List ℕ) (a : ℕ) (xs : List ℕ) (j : ℕ) : Type 0 where
-  pub size : length m' ≡ length m
-  pub done : (k : ℕ) → k < j → get_or m' (a + k) 0 ≡ get_or xs k 0
-  pub below : (b : ℕ) → b < a → get_or m' b 0 ≡ get_or m b 0
-  pub above : (b : ℕ) → a + j ≤ b → get_or m' b 0 ≡ get_or m b 0
-
-pub write_start : (m : List ℕ) (a : ℕ) (xs : List ℕ) → Writing m m a xs 0
-write_start m a xs = record { size = refl; done = λ k p. absurd (omega arith); below = λ b p. refl; above = λ b p. refl }
-
-pub write_iteration : {m m' : List ℕ} {a : ℕ} {xs : List ℕ} {j v : ℕ} → Writing m m' a xs j → a + j < length m → v ≡ get_or xs j 0
-    → Writing m (set m' (a + j) v) a xs (j + 1)
-write_iteration {m} {m'} {a} {xs} {j} {v} s h w =
-    let l : length m' ≡ length m = s.size in
-    record {
-      size = length-set m' (a + j) v ∙ l;
-      done = λ k p. ⊎_elim
-          (λ r. get_or-set_other m' (a + j) (a + k) v 0 (λ z. omega arith) ∙ s.done k r)
-          (λ r.
-          let e : k ≡ j = omega arith in
-          ap (λ (z : ℕ). get_or (set m' (a + j) v) (a + z) 0) e
-          ∙ get_or-set_same m' (a + j) v 0 (omega arith)
-          ∙ w
-          ∙ ap (λ (z : ℕ). get_or xs z 0) (sym e))
-          (lt_or_ge k j);
-      below = λ b p. get_or-set_other m' (a + j) b v 0 (λ z. omega arith) ∙ s.below b p;
-      above = λ b p. get_or-set_other m' (a + j) b v 0 (λ z. omega arith) ∙ s.above b (omega arith);
-    }
-
--- written from the first byte on
-pub write_front : {m m' xs : List ℕ} {j v : ℕ} → Writing m m' 0 xs j → j < length m → v ≡ get_or xs j 0 → Writing m (set m' j v) 0 xs (j + 1)
-write_front {m} {m'} {xs} {j} {v} s h w = subst (λ (z : ℕ). Writing m (set m' z v) 0 xs (j + 1)) (zero-add j) (write_iteration s (omega arith) w)
-
-pub write_end : {m m' : List ℕ} {a : ℕ} {xs : List ℕ} {j : ℕ} → Writing m m' a xs j → j ≡ length xs → Wrote m m' a xs
-write_end s e =
-    record {
-      apart = record { size = s.size; below = s.below; above = λ b h. s.above b (omega arith) };
-      here = λ k h. s.done k (omega arith);
-    }
-
--- ---- two bytes, four bytes
-
-module _ (m : List ℕ) (a v : ℕ) (xs : List ℕ) where
-  pub write_first : a < length m → Writing m (set m a v) a (v ∷ xs) 1
-  write_first h = subst (λ (z : ℕ). Writing m (set m z v) a (v ∷ xs) 1) (add-zero a) (write_iteration (write_start m a (v ∷ xs)) (omega arith) refl)
-
-pub wrote2 : (m : List ℕ) (a x y : ℕ) → a + 2 ≤ length m → Wrote m (set (set m a x) (a + 1) y) a (x ∷ y ∷ [])
-wrote2 m a x y h = write_end (write_iteration (write_first m a x (y ∷ []) (omega arith)) (omega arith) refl) refl
-
-pub wrote4 : (m : List ℕ) (a x y z w : ℕ) → a + 4 ≤ length m
-    → Wrote m (set (set (set (set m a x) (a + 1) y) (a + 2) z) (a + 3) w) a (x ∷ y ∷ z ∷ w ∷ [])
-wrote4 m a x y z w h =
-    let s1 = write_first m a x (y ∷ z ∷ w ∷ []) (omega arith) in
-    let s2 = write_iteration s1 (omega arith) refl in
-    let s3 = write_iteration s2 (omega arith) refl in
-    write_end (write_iteration s3 (omega arith) refl) refl
 
 -- ---- numbers of two bytes are d more: those below j are
 

@@ -1,5 +1,6 @@
--- Loops that look at every number of a group, and: the numbers of a group are numbers of the column that it is of.
-use Rattle.basics.proofs.Kit.{◌≡◌, refl, sym, ap, ◌∙◌, subst, Bool, false, ◌||◌, List, ℕ, ◌+◌, ◌*◌, ◌≤◌, ◌<◌, ◌-◌, arith}
+-- Loops that look at every number of a group; the numbers of a group are numbers of the column that it is of.
+use Rattle.basics.proofs.Kit.{◌≡◌, refl, sym, ap, ◌∙◌, subst, Bool, true, false, cond, ◌||◌, List, ℕ, ◌+◌, ◌*◌, ◌≤◌, ◌<◌, ◌-◌, arith}
+use mir.Val.{bool_byte}
 use Rattle.basics.specs.Basics.{any}
 use Rattle.basics.specs.Lists.{tab}
 use Rattle.memory_bytes.specs.Bytes.{le2, le4, column2, column4}
@@ -43,3 +44,10 @@ module _ (m : List ℕ) (base i k : ℕ) where
 
     pub any_group4 : r ≡ any f (tab (column4 m (base + i * 4)) 0 k) → r ≡ b → any f (tab (column4 m base) i k) ≡ b
     any_group4 e t = ap (any f) (sym group4) ∙ sym e ∙ t
+
+-- ---- a test as a number
+
+-- a bool as the number that the code makes of it
+pub as_number : (b : Bool) {v : ℕ} → v ≡ bool_byte b → v ≡ cond b 1 0
+as_number true e = e
+as_number false e = e

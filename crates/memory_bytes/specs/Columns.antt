@@ -23,6 +23,10 @@ slot_limit = 1024
 abbrev pub names : ℕ → ℕ → Bool
 names s x = eqb (x % slot_limit) s
 
+-- f is the test of numbers of four bytes that a closure makes, whose calls are told by call
+abbrev pub Tests : (ℕ → Bool → Type 0) → (ℕ → Bool) → Type 0
+Tests call f = (x : ℕ) (b : Bool) → x < 4294967296 → call x b → b ≡ f x
+
 -- there are numbers of two bytes from base on, from index s up to, not including, e, and they can be counted in 16 bits
 pub record Countable (m : List ℕ) (base s e : ℕ) : Type 0 where
   pub order : s ≤ e

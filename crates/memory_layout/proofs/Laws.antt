@@ -15,7 +15,7 @@ use Rattle.basics.proofs.Tabs.{length_tab, take_tab}
 use Rattle.memory_layout.specs.Places.{signature, head_size}
 use Rattle.memory_layout.specs.Views.{head_of, counts_of, row_count, open_count, named_count, directory_count, page_count, open_at, directory_at, row_at, start_at, entry_at, named_block}
 use Rattle.memory_layout.specs.declared.Counts.{Counts}
-use Rattle.memory_layout.specs.Flat.{Flat, flat_of, capacity_of, opens_of, rows_of, entries_of, named_of, directories_of, Room, InRange, Becomes}
+use Rattle.memory_layout.specs.Flat.{Flat, flat_of, capacity_of, Capacity, opens_of, rows_of, entries_of, named_of, directories_of, Room, InRange, Becomes}
 use Rattle.memory_layout.specs.Store.{total, start_of, tables_rise, starts_rise, holds_store, has_rows, pages_in, store_of, store_in}
 use Rattle.memory_layout.proofs.Frame.{start_behind}
 use Rattle.memory_layout.proofs.Refusal.{range_in, in_range_lem, end_rises, start_rises}
@@ -145,6 +145,12 @@ known m r =
       named_are = named_length m;
       directories_are = directories_length m;
     }
+
+-- the capacity of a memory with room
+pub sized : (m : List ℕ) → Room m → Capacity m (capacity_of m)
+sized m r =
+    let k = known m r in
+    record { is = refl; least = k.least; most = k.most; long = omega (arith, k.long); rows = omega (arith, k.rows, k.rows_are) }
 
 -- the same, of the lists
 pub record Sizes (m : List ℕ) : Type 0 where

@@ -55,6 +55,14 @@ abbrev pub flat_of : List ℕ → Flat
 flat_of m =
     record { head = head_of m; opens = opens_of m; rows = rows_of m; entries = entries_of m; named = named_of m; directories = directories_of m; used = is_used m }
 
+-- c is the capacity, and the rows and their columns have room
+pub record Capacity (m : List ℕ) (c : ℕ) : Type 0 where
+  pub is : c ≡ capacity_of m
+  pub least : 1 ≤ c
+  pub most : c ≤ capacity_limit
+  pub long : memory_for c ≤ length m
+  pub rows : length (rows_of m) ≤ c
+
 -- ---- room
 
 -- the ranges of the head's numbers, for a memory of size bytes

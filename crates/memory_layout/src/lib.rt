@@ -6,18 +6,16 @@
 pub mod places;
 mod ranges;
 
-ghost use Rattle.std.specs.Prelude.{◌≡◌, false, ◌∷◌, [], ◌++◌, ◌+◌, ◌*◌, ◌/◌, ◌%◌, ◌^◌, ◌≤◌, ◌<◌, eqb, length, get_or, set};
+ghost use Rattle.std.specs.Prelude.{◌≡◌, false, ◌∷◌, [], ◌++◌, ◌+◌, ◌*◌, ◌≤◌, ◌<◌, length, get_or, set};
 ghost use Rattle.std.proofs.Math.Option.{some};
-ghost use Rattle.std.specs.Int.Bits.{bit_or};
 ghost use Rattle.image.specs.Stages.{capacity_limit};
 ghost use Rattle.block_forms.specs.Limits.{block_limit};
 ghost use Rattle.model.specs.Recover.{fresh_store, memory_for};
 ghost use Rattle.model.specs.Checkpoint.{used_and};
 ghost use Rattle.memory_bytes.specs.Bytes.{Apart};
 ghost use Rattle.basics.specs.Lists.{remove_at};
-ghost use Rattle.basics.specs.Basics.{one_if};
-ghost use Rattle.memory_layout.specs.Views.{head_of, counts_of};
-ghost use Rattle.memory_layout.specs.Flat.{flat_of, Room, Replaces, Becomes, with_head, with_opens, with_named, with_directories, with_used, no_open};
+ghost use Rattle.memory_layout.specs.Views.{head_of, counts_of, page_count};
+ghost use Rattle.memory_layout.specs.Flat.{flat_of, Capacity, Room, Replaces, Becomes, with_head, with_opens, with_named, with_directories, with_used, no_open};
 ghost use Rattle.memory_layout.specs.Opens.{active_of, find_open, OpenFits};
 ghost use Rattle.memory_layout.specs.Elements.{OpenAt, OpenMore, NamedAt, NamedMore, DirectoryMore};
 ghost use Rattle.memory_layout.specs.Store.{holds_store, FreshFits, fresh_flat, store_in};
@@ -111,13 +109,28 @@ pub fn get_counts(m: &[u8]) -> Counts
     }
 }
 
-fn one_if(b: bool) -> u32
-    ensures { result ≡ one_if b }
+// How many rows there is room for.
+pub fn capacity(m: &[u8]) -> usize
+    requires { Room m.now }
+    ensures { Capacity m.now result }
 {
-    if b {
-        return 1;
-    }
-    0
+    memory_bytes::get4(m, places::CAPACITY) as usize
+}
+
+// How many rows there are.
+pub fn row_count(m: &[u8]) -> usize
+    requires { Room m.now }
+    ensures { result ≡ length (flat_of m.now).rows }
+{
+    memory_bytes::get4(m, places::ROW_COUNT) as usize
+}
+
+// How many pages there are: where the last table ends.
+pub fn page_count(m: &[u8]) -> usize
+    requires { Room m.now }
+    ensures { result ≡ page_count m.now }
+{
+    memory_bytes::get2(m, places::PAGE_COUNT) as usize
 }
 
 // Writes every number of the head that is no count; the counts stay as they are.
@@ -129,7 +142,7 @@ pub fn put_head(m: &mut [u8], h: Head)
     memory_bytes::put4(m, places::BLOCKS, h.blocks);
     memory_bytes::put4(m, places::LEVEL, h.level);
     memory_bytes::put4(m, places::NEXT, h.next);
-    memory_bytes::put4(m, places::RUNNING, one_if(h.running));
+    memory_bytes::put4(m, places::RUNNING, u32::from(h.running));
     memory_bytes::put4(m, places::BEGUN, h.begun);
     memory_bytes::put4(m, places::TAKEN, h.taken);
 }
@@ -153,13 +166,11 @@ pub fn find_open(m: &[u8], transaction: u64) -> usize
     ensures { result ≡ find_open transaction (flat_of m.now).opens }
 {
     let n = memory_bytes::get4(m, places::OPEN_COUNT) as usize;
-    let mut i = 0;
-    while i < n {
+    for i in 0..n {
         let t = (memory_bytes::get4(m, places::OPENS + i * 4) / STATEMENTS) as u64;
         if t == transaction {
             return i;
         }
-        i += 1;
     }
     n
 }
@@ -205,8 +216,7 @@ fn named_place(m: &[u8], i: usize) -> usize
     requires { Room m.now × (i < capacity_limit) }
     ensures { result ≡ named_at (head_of m.now).capacity + i * 2 }
 {
-    let c = memory_bytes::get4(m, places::CAPACITY) as usize;
-    places::HEAD_SIZE + c * places::NAMED + i * 2
+    places::HEAD_SIZE + capacity(m) * places::NAMED + i * 2
 }
 
 pub fn get_named(m: &[u8], i: usize) -> u16
@@ -269,35 +279,18 @@ pub fn clear_directories(m: &mut [u8])
 
 // ---- blocks in use
 
-// bit k of x, from the low end
-fn bit(x: u8, k: usize) -> bool
-    requires { k < 8 }
-    ensures { result ≡ eqb (x / 2 ^ k % 2) 1 }
-{
-    (x >> k) % 2 == 1
-}
-
-// x with bit k set
-fn with_bit(x: u8, k: usize) -> u8
-    requires { k < 8 }
-    ensures { result ≡ bit_or x (2 ^ k) }
-{
-    x | (1 << k)
-}
-
 pub fn is_used(m: &[u8], b: usize) -> bool
     requires { (b < block_limit) × (head_size ≤ length m.now) }
     ensures { result ≡ (flat_of m.now).used b }
 {
-    bit(m[places::USED + b / 8], b % 8)
+    (m[places::USED + b / 8] >> (b % 8)) % 2 == 1
 }
 
 pub fn mark_used(m: &mut [u8], b: usize)
     requires { Room m.old × (b < block_limit) }
     ensures { Becomes m.old m.new (with_used (flat_of m.old) (used_and b (flat_of m.old).used)) }
 {
-    let a = places::USED + b / 8;
-    m[a] = with_bit(m[a], b % 8);
+    m[places::USED + b / 8] |= 1 << (b % 8);
 }
 
 pub fn clear_used(m: &mut [u8])
@@ -337,10 +330,8 @@ fn name_slots(m: &mut [u8], n: usize)
     requires { (n ≤ capacity_limit) × (memory_for n ≤ length m.old) }
     ensures { Apart m.old m.new (refs_at n) (n * 2) }
 {
-    let mut i: usize = 0;
-    while i < n {
+    for i in 0..n {
         memory_bytes::put2(m, places::HEAD_SIZE + n * places::REFS + i * 2, i as u16);
-        i += 1;
     }
 }
 

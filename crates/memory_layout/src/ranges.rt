@@ -32,12 +32,10 @@ pub fn tables_rise(m: &[u8]) -> bool
     ensures { result ≡ tables_rise m.now }
 {
     let mut rise = true;
-    let mut t: usize = 0;
-    while t < 7 {
+    for t in 0..7 {
         let a = memory_bytes::get2(m, TABLE_ENDS + t * 2);
         let b = memory_bytes::get2(m, TABLE_ENDS + t * 2 + 2);
-        rise = rise & (a <= b);
-        t += 1;
+        rise &= a <= b;
     }
     rise
 }

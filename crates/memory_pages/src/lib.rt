@@ -9,7 +9,7 @@ ghost use Rattle.basics.specs.Basics.{any, how_many};
 ghost use Rattle.memory_bytes.specs.Bytes.{column2};
 ghost use Rattle.basics.specs.Lists.{tab, first_index, insert_at, remove_at};
 ghost use Rattle.memory_layout.specs.Places.{starts_at, blocks_at};
-ghost use Rattle.memory_layout.specs.Views.{row_count, page_count, start_at, block_word};
+ghost use Rattle.memory_layout.specs.Views.{start_at, block_word};
 ghost use Rattle.memory_layout.specs.Flat.{flat_of, capacity_of, Room, entry_in};
 ghost use Rattle.memory_layout.specs.Store.{start_of};
 ghost use Rattle.memory_rows.specs.Rows.{NewRow, held_by};
@@ -17,9 +17,8 @@ ghost use Rattle.memory_rows.specs.Cells.{InOrder};
 ghost use Rattle.memory_pages.specs.Columns.{Inserted2, Removed2, Opened, Closed, MayOpen, MayClose};
 ghost use Rattle.memory_pages.specs.Pages.{TableFrom, OnPages, PageOf, MaySplit, MayJoin, MayLose, MaySet, MayInsert, MayRemove, word_of, dirty, set_block, split_entry, join_entries, more_rows, fewer_rows, EntriesBecome, RowsBecome, frozen_word, Passed, frozen_entry, dirty_entry, PageBehind, RowBehind, clean, behind, more_last};
 
-use memory_layout::places::{
-    CAPACITY, HEAD_SIZE, PAGE_BLOCKS, PAGE_COUNT, ROW_COUNT, STARTS, TABLE_ENDS,
-};
+use memory_layout::places::{HEAD_SIZE, PAGE_BLOCKS, STARTS, TABLE_ENDS};
+use memory_layout::{capacity, page_count, row_count};
 use memory_rows::Row;
 
 const TABLES: usize = 8;
@@ -30,29 +29,6 @@ const LAST_TABLE: usize = 7;
 const FROZEN: u16 = block_forms::BLOCK_LIMIT as u16;
 
 // ---- places
-
-// How many rows there is room for.
-fn capacity(m: &[u8]) -> usize
-    requires { Room m.now }
-    ensures { result ≡ capacity_of m.now }
-{
-    memory_bytes::get4(m, CAPACITY) as usize
-}
-
-fn row_count(m: &[u8]) -> usize
-    requires { Room m.now }
-    ensures { result ≡ row_count m.now }
-{
-    memory_bytes::get4(m, ROW_COUNT) as usize
-}
-
-// How many pages there are: where the last table ends.
-fn page_count(m: &[u8]) -> usize
-    requires { Room m.now }
-    ensures { result ≡ page_count m.now }
-{
-    memory_bytes::get2(m, PAGE_COUNT) as usize
-}
 
 // Where the first rows of the pages stand.
 fn starts(m: &[u8]) -> usize
@@ -124,9 +100,10 @@ pub fn table_start(m: &[u8], t: usize) -> usize
     ensures { TableFrom (flat_of m.now) t result }
 {
     if t == 0 {
-        return 0;
+        0
+    } else {
+        memory_bytes::get2(m, TABLE_ENDS + (t - 1) * 2) as usize
     }
-    memory_bytes::get2(m, TABLE_ENDS + (t - 1) * 2) as usize
 }
 
 // The table of page p: how many tables end at or before it.
@@ -197,10 +174,7 @@ fn word(block: u16, frozen: bool) -> u16
     requires { block < block_limit }
     ensures { result ≡ word_of block frozen }
 {
-    if frozen {
-        return block + FROZEN;
-    }
-    block
+    if frozen { block + FROZEN } else { block }
 }
 
 // Page p is in this block, and frozen or not.
@@ -303,10 +277,8 @@ fn any_frozen(m: &[u8], at: usize) -> bool
     ensures { result ≡ any frozen_word (tab (column2 m.now at) 0 16) }
 {
     let mut hit = false;
-    let mut j: usize = 0;
-    while j < 16 {
-        hit = hit | (memory_bytes::get2(m, at + j * 2) / FROZEN % 2 == 1);
-        j += 1;
+    for j in 0..16 {
+        hit |= memory_bytes::get2(m, at + j * 2) / FROZEN % 2 == 1;
     }
     hit
 }
@@ -316,14 +288,13 @@ fn pass_groups(m: &[u8], base: usize, n: usize) -> usize
     requires { base + n * 2 ≤ length m.now }
     ensures { Passed (column2 m.now base) n result }
 {
-    let mut p: usize = 0;
-    while p + 16 <= n {
+    for g in 0..n / 16 {
+        let p = g * 16;
         if any_frozen(m, base + p * 2) {
             return p;
         }
-        p += 16;
     }
-    p
+    n / 16 * 16
 }
 
 // The first frozen page, or how many pages there are: by groups, since nearly all pages are not frozen.
@@ -333,12 +304,10 @@ pub fn first_frozen(m: &[u8]) -> usize
 {
     let n = page_count(m);
     let base = blocks(m);
-    let mut p = pass_groups(m, base, n);
-    while p < n {
+    for p in pass_groups(m, base, n)..n {
         if memory_bytes::get2(m, base + p * 2) / FROZEN % 2 == 1 {
             return p;
         }
-        p += 1;
     }
     n
 }
@@ -352,12 +321,10 @@ pub fn count_frozen(m: &[u8], from: usize) -> usize
 {
     let n = page_count(m);
     let mut k: u16 = 0;
-    let mut p = from;
-    while p < n {
-        k += memory_bytes::one_if(frozen_at(m, p));
-        p += 1;
+    for p in from..n {
+        k += u16::from(frozen_at(m, p));
     }
-    k as usize
+    usize::from(k)
 }
 
 // How many pages are dirty.
@@ -367,10 +334,8 @@ pub fn count_dirty(m: &[u8]) -> usize
 {
     let n = page_count(m);
     let mut k: u16 = 0;
-    let mut p: usize = 0;
-    while p < n {
-        k += memory_bytes::one_if(block_at(m, p) == 0);
-        p += 1;
+    for p in 0..n {
+        k += u16::from(block_at(m, p) == 0);
     }
-    k as usize
+    usize::from(k)
 }

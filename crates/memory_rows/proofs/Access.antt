@@ -1,5 +1,5 @@
 -- What the head's numbers give, and a row by its bytes.
-use Rattle.basics.proofs.Kit.{◌≡◌, refl, sym, ap, ◌∙◌, List, ℕ, ◌+◌, ◌*◌, ◌≤◌, ◌<◌, ◌-◌, length, arith}
+use Rattle.basics.proofs.Kit.{◌≡◌, sym, ap, ◌∙◌, List, ℕ, ◌+◌, ◌*◌, ◌≤◌, ◌<◌, ◌-◌, length, arith}
 use Rattle.memory_bytes.specs.Columns.{equals, Covers}
 use Rattle.basics.specs.Lists.{tab}
 use Rattle.memory_bytes.specs.Bytes.{le4, bytes, column4}
@@ -8,17 +8,12 @@ use Rattle.model.specs.State.{Held}
 use Rattle.memory_layout.specs.Places.{keys_at}
 use Rattle.block_forms.specs.Decode.{read_owner, read_mark}
 use Rattle.memory_layout.specs.Views.{row_count, row_at, held_of, pending_of, length_of, key_of, ref_of, state_of, slot_place}
-use Rattle.memory_layout.specs.Flat.{flat_of, rows_of, capacity_of, row_in, no_row, Room}
-use Rattle.memory_layout.proofs.Laws.{rows_length, known}
+use Rattle.memory_layout.specs.Flat.{flat_of, rows_of, capacity_of, row_in, no_row}
+use Rattle.memory_layout.proofs.Laws.{rows_length}
 use Rattle.memory_rows.specs.Rows.{key_in}
-use Rattle.memory_rows.specs.Cells.{Capacity, slot_in, slot_at}
+use Rattle.memory_rows.specs.Cells.{slot_in, slot_at}
 
 module _ (m : List ℕ) where
-  pub sized : Room m → Capacity m (capacity_of m)
-  sized r =
-      let k = known m r in
-      record { is = refl; least = k.least; most = k.most; long = omega (arith, k.long); rows = omega (arith, k.rows, k.rows_are) }
-
   pub row_is : (i : ℕ) → i < length (rows_of m) → row_in (flat_of m) i ≡ row_at m (capacity_of m) i
   unfolding rows_of
   row_is i h =

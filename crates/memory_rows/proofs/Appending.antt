@@ -11,7 +11,8 @@ use Rattle.memory_layout.specs.Views.{slot_of, ref_of}
 use Rattle.memory_layout.specs.Flat.{capacity_of, rows_of}
 use Rattle.memory_layout.proofs.Frame.{same4}
 use Rattle.memory_rows.specs.Rows.{held_by, RowFits, RowsOnly}
-use Rattle.memory_rows.specs.Cells.{code_of, Capacity, slot_in, slot_at, is_taken, InOrder, RowsRaised, CellsPut, SlotFilled}
+use Rattle.memory_layout.specs.Flat.{Capacity}
+use Rattle.memory_rows.specs.Cells.{code_of, slot_in, slot_at, is_taken, InOrder, RowsRaised, CellsPut, SlotFilled}
 use Rattle.memory_rows.specs.declared.Row.{Row}
 use Rattle.memory_rows.proofs.Moving.{cells_stay}
 use Rattle.memory_rows.proofs.Inserting.{slot_own, inserted}

@@ -21,7 +21,8 @@ use Rattle.memory_rows.specs.Rows.{pending_is, committed_row, with_row}
 use Rattle.memory_rows.specs.Cells.{code_of}
 use Rattle.memory_rows.specs.declared.Pending.{Pending}
 use Rattle.memory_rows.specs.declared.Pending.TheVariants.{Nothing, Adding, Committing, Removing}
-use Rattle.memory_rows.proofs.Access.{sized, row_is}
+use Rattle.memory_rows.proofs.Access.{row_is}
+use Rattle.memory_layout.proofs.Laws.{sized}
 use Rattle.memory_layout.proofs.Changes.{same_below, same_above, kept_pages, becomes_rest}
 
 module _ {m m' : List ℕ} (room : Room m) (i : ℕ) (h : i < length (rows_of m)) {a n : ℕ} (s : Apart m m' a n)

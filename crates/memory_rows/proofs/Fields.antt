@@ -1,15 +1,15 @@
 -- Numbers of a row's columns as the model's values.
-use Rattle.basics.proofs.Kit.{◌≡◌, refl, sym, ap, ◌∙◌, Bool, true, false, ◌&&◌, List, ℕ, ◌+◌, ◌≤◌, ◌<◌, zero, suc, eqb, ltb, length, arith}
+use Rattle.basics.proofs.Kit.{◌≡◌, refl, sym, ap, ◌∙◌, Bool, true, false, ◌&&◌, List, ℕ, ◌+◌, ◌≤◌, ◌<◌, ltb, length, arith}
 use Rattle.basics.specs.Basics.{if'◌then◌else◌}
 use Rattle.block_forms.specs.Limits.{record_head, owner_width, committed_value}
 use Rattle.block_forms.specs.Tuple.{Tuple, size, owner_size, record_size}
 use Rattle.image_rows.specs.Rows.{is_by}
 use Rattle.model.specs.State.{Pending, nothing, adding, committing, removing, Held}
-use Rattle.model.specs.Rules.{held_size, is_adding, is_pending, is_removing, is_committing, applied, as_committed}
+use Rattle.model.specs.Rules.{held_size, is_removing, is_committing, applied, as_committed}
 use Rattle.block_forms.proofs.ReadTuples.{owner_size_lem}
 use Rattle.memory_bytes.specs.Bytes.{le4}
 use Rattle.memory_bytes.proofs.Bytes.{length_bytes}
-use Rattle.memory_layout.specs.Views.{length_of, pending_by, state_of, slot_place}
+use Rattle.memory_layout.specs.Views.{length_of, state_of, slot_place}
 use Rattle.memory_layout.specs.Flat.{flat_of, rows_of, capacity_of, row_in}
 use Rattle.memory_rows.specs.Rows.{is_live_own}
 use Rattle.memory_rows.specs.Cells.{keeps_owner, slot_at}
@@ -46,20 +46,3 @@ pub owner_most : (t : Bool) → (if' t then owner_width else 0) ≤ owner_width
 unfolding if'◌then◌else◌
 owner_most true = omega arith
 owner_most false = omega arith
-
--- ---- pending operations
-
--- each test of an operation, by its number
-pub record Tests (k : ℕ) : Type 0 where
-  pub adding : eqb k 1 ≡ is_adding (pending_by k)
-  pub committing : eqb k 2 ≡ is_committing (pending_by k)
-  pub removing : eqb k 3 ≡ is_removing (pending_by k)
-  pub pending : ltb 0 k ≡ is_pending (pending_by k)
-
-pub tests : (k : ℕ) → k < 4 → Tests k
-unfolding pending_by is_adding is_committing is_removing is_pending if'◌then◌else◌
-tests zero h = record { adding = refl; committing = refl; removing = refl; pending = refl }
-tests (suc zero) h = record { adding = refl; committing = refl; removing = refl; pending = refl }
-tests (suc (suc zero)) h = record { adding = refl; committing = refl; removing = refl; pending = refl }
-tests (suc (suc (suc zero))) h = record { adding = refl; committing = refl; removing = refl; pending = refl }
-tests (suc (suc (suc (suc k)))) h = absurd (omega arith)

@@ -20,7 +20,8 @@ use Rattle.memory_layout.proofs.Frame.{Same, same4, same_bytes, within, within4,
 use Rattle.block_forms.specs.Bytes.{owner_is, flags_of, owner_word}
 use Rattle.block_forms.proofs.ReadBack.{flags_length, flags_mark, flags_owner}
 use Rattle.memory_rows.specs.Rows.{held_by, RowFits, RowsOnly}
-use Rattle.memory_rows.specs.Cells.{code_of, Capacity, slot_in, slot_at, is_taken, SameCells, RowsRaised, RowsLowered, CellsPut, SlotFilled}
+use Rattle.memory_layout.specs.Flat.{Capacity}
+use Rattle.memory_rows.specs.Cells.{code_of, slot_in, slot_at, is_taken, SameCells, RowsRaised, RowsLowered, CellsPut, SlotFilled}
 use Rattle.memory_rows.specs.declared.Row.{Row}
 use Rattle.memory_rows.proofs.Exchange.{code_is}
 use Rattle.memory_rows.proofs.Moving.{cells_then, cells_stay}

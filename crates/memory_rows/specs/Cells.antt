@@ -1,6 +1,5 @@
 -- What the inner functions say: numbers that are stored, slots, and cells of the rows' columns.
 use Rattle.std.specs.Prelude.{ℕ, ◌+◌, ◌*◌, ◌≤◌, ◌<◌, ◌≡◌, Bool, true, false, List, length, get_or}
-use Rattle.model.specs.Recover.{memory_for}
 use Rattle.image.specs.Stages.{capacity_limit}
 use Rattle.block_forms.specs.Limits.{payload_limit}
 use Rattle.memory_bytes.specs.Bytes.{le4, bytes, Apart}
@@ -32,16 +31,6 @@ keeps_owner model.nothing = true
 keeps_owner model.adding = true
 keeps_owner model.committing = false
 keeps_owner model.removing = false
-
--- ---- the capacity
-
--- c is the capacity, and the rows and their columns have room
-pub record Capacity (m : List ℕ) (c : ℕ) : Type 0 where
-  pub is : c ≡ capacity_of m
-  pub least : 1 ≤ c
-  pub most : c ≤ capacity_limit
-  pub long : memory_for c ≤ length m
-  pub rows : length (rows_of m) ≤ c
 
 -- ---- slots
 

@@ -13,7 +13,7 @@ ghost use Rattle.image_rows.specs.Rows.{is_by};
 ghost use Rattle.model.specs.Rules.{held_size, with_pending, is_adding, is_committing, is_removing, is_pending};
 ghost use Rattle.memory_bytes.specs.Columns.{equals, up_to, at_least, Covers};
 ghost use Rattle.basics.specs.Lists.{tab, insert_at, remove_at, first_index, last_index};
-ghost use Rattle.memory_layout.specs.Views.{length_of, pending_by};
+ghost use Rattle.memory_layout.specs.Views.{length_of};
 ghost use Rattle.memory_layout.specs.Flat.{flat_of, row_in, Room, Becomes};
 ghost use Rattle.memory_layout.specs.Elements.{RowRange};
 ghost use Rattle.block_forms.specs.Bytes.{owner_is};
@@ -22,35 +22,32 @@ ghost use Rattle.memory_rows.specs.Cells.{code_of, keeps_owner, InOrder};
 
 use block_forms::{Owner, PageLayout};
 use memory_bytes::Span;
-use places::{
-    capacity, key_place, keys_at, ref_at, ref_place, refs_at, row_count, slot_place, state_at,
-    state_place,
-};
+use memory_layout::{capacity, row_count};
+use places::{key_place, keys_at, ref_at, ref_place, refs_at, slot_place, state_at, state_place};
 use shifts::{lower_rows, raise_rows};
 use slots::{fill_slot, free_slot, put_cells};
 
 // A row's two bytes are its slot, plus this times its pending operation.
 const SLOT_LIMIT: u16 = memory_bytes::SLOT_LIMIT;
 
-// Pending operations by their numbers.
-const NOTHING: u16 = 0;
-
-const ADDING: u16 = 1;
-
-const COMMITTING: u16 = 2;
-
-const REMOVING: u16 = 3;
-
 // A row's state is the ninth byte of its record; from this number on it means committed.
 const COMMITTED: u8 = block_forms::COMMITTED;
 
-// What a checkpoint will do to a row of a frozen page.
-#[derive(Clone, Copy)]
+// What a checkpoint will do to a row of a frozen page. Its number, as it stands above a slot's, is its place in this list.
+#[derive(Clone, Copy, Debug, PartialEq, Eq)]
 pub enum Pending {
     Nothing,
     Adding,
     Committing,
     Removing,
+}
+
+impl From<Pending> for u16 {
+    ghost from_gives = { λ p x. x ≡ code_of p };
+
+    fn from(p: Pending) -> u16 {
+        p as u16
+    }
 }
 
 // A row but for its payload.
@@ -63,7 +60,7 @@ pub struct Row {
     pub pending: Pending,
 }
 
-// A part of the memory.
+// A part of the memory. No range: `Holds` and the contracts above name its length.
 #[derive(Clone, Copy)]
 pub struct Part {
     pub start: usize,
@@ -101,68 +98,51 @@ pub fn mark_at(m: &[u8], i: usize) -> bool
     block_forms::mark_of(state_at(m, i))
 }
 
-// The number of the row's pending operation.
-fn code_at(m: &[u8], i: usize) -> u16
-    requires { Room m.now × (i < length (flat_of m.now).rows) }
-    ensures { (pending_by result ≡ (row_in (flat_of m.now) i).pending) × (result < 4) }
-{
-    ref_at(m, i) / SLOT_LIMIT % 4
-}
-
 pub fn pending_at(m: &[u8], i: usize) -> Pending
     requires { Room m.now × (i < length (flat_of m.now).rows) }
     ensures { pending_is result ≡ (row_in (flat_of m.now) i).pending }
 {
-    let p = code_at(m, i);
-    if p == NOTHING {
-        return Pending::Nothing;
+    match ref_at(m, i) / SLOT_LIMIT % 4 {
+        0 => Pending::Nothing,
+        1 => Pending::Adding,
+        2 => Pending::Committing,
+        _ => Pending::Removing,
     }
-    if p == ADDING {
-        return Pending::Adding;
-    }
-    if p == COMMITTING {
-        return Pending::Committing;
-    }
-    Pending::Removing
 }
 
 pub fn is_adding(m: &[u8], i: usize) -> bool
     requires { Room m.now × (i < length (flat_of m.now).rows) }
     ensures { result ≡ is_adding (row_in (flat_of m.now) i).pending }
 {
-    code_at(m, i) == ADDING
+    pending_at(m, i) == Pending::Adding
 }
 
 pub fn is_committing(m: &[u8], i: usize) -> bool
     requires { Room m.now × (i < length (flat_of m.now).rows) }
     ensures { result ≡ is_committing (row_in (flat_of m.now) i).pending }
 {
-    code_at(m, i) == COMMITTING
+    pending_at(m, i) == Pending::Committing
 }
 
 pub fn is_removing(m: &[u8], i: usize) -> bool
     requires { Room m.now × (i < length (flat_of m.now).rows) }
     ensures { result ≡ is_removing (row_in (flat_of m.now) i).pending }
 {
-    code_at(m, i) == REMOVING
+    pending_at(m, i) == Pending::Removing
 }
 
 pub fn is_pending(m: &[u8], i: usize) -> bool
     requires { Room m.now × (i < length (flat_of m.now).rows) }
     ensures { result ≡ is_pending (row_in (flat_of m.now) i).pending }
 {
-    code_at(m, i) > NOTHING
+    pending_at(m, i) != Pending::Nothing
 }
 
 // The payload's length: the low six bits, and never above the limit.
 fn length_of(state: u8) -> usize
     ensures { (result ≡ length_of state) × (result ≤ payload_limit) }
 {
-    let n = (state % block_forms::MARK) as usize;
-    if n < PageLayout::PAYLOAD_LIMIT {
-        return n;
-    }
-    PageLayout::PAYLOAD_LIMIT
+    usize::from(state % block_forms::MARK).min(PageLayout::PAYLOAD_LIMIT)
 }
 
 // What the row takes of a block.
@@ -201,12 +181,7 @@ pub fn copy_payload(m: &[u8], i: usize, out: &mut [u8]) -> usize
 fn keeps_owner(p: Pending) -> bool
     ensures { result ≡ keeps_owner (pending_is p) }
 {
-    match p {
-        Pending::Nothing => true,
-        Pending::Adding => true,
-        Pending::Committing => false,
-        Pending::Removing => false,
-    }
+    matches!(p, Pending::Nothing | Pending::Adding)
 }
 
 fn is_by(o: Owner, transaction: u64) -> bool
@@ -214,10 +189,7 @@ fn is_by(o: Owner, transaction: u64) -> bool
 {
     match o {
         Owner::Committed => false,
-        Owner::Tentative {
-            transaction: t,
-            statement: _,
-        } => t as u64 == transaction,
+        Owner::Tentative { transaction: t, .. } => t as u64 == transaction,
     }
 }
 
@@ -226,10 +198,7 @@ pub fn owns(m: &[u8], i: usize, transaction: u64) -> bool
     requires { Room m.now × (i < length (flat_of m.now).rows) }
     ensures { result ≡ is_live_own transaction (row_in (flat_of m.now) i) }
 {
-    if keeps_owner(pending_at(m, i)) {
-        return is_by(owner_at(m, i), transaction);
-    }
-    false
+    keeps_owner(pending_at(m, i)) && is_by(owner_at(m, i), transaction)
 }
 
 // Whether one of the 16 rows from i on is tentative, whatever its pending operation. The loop has no branch, so that it becomes vector code.
@@ -239,10 +208,8 @@ pub fn any_tentative(m: &[u8], i: usize) -> bool
 {
     let a = state_place(m, i);
     let mut hit = false;
-    let mut j: usize = 0;
-    while j < 16 {
-        hit = hit | (m[a + j] < COMMITTED);
-        j += 1;
+    for j in 0..16 {
+        hit |= m[a + j] < COMMITTED;
     }
     hit
 }
@@ -258,18 +225,6 @@ pub fn commit_row(m: &mut [u8], i: usize)
     m[a] = m[a] % COMMITTED + COMMITTED;
 }
 
-// The number of a pending operation, as it stands above a slot's number.
-fn pending_code(p: Pending) -> u16
-    ensures { (result ≡ code_of p) × (result < 4) }
-{
-    match p {
-        Pending::Nothing => NOTHING,
-        Pending::Adding => ADDING,
-        Pending::Committing => COMMITTING,
-        Pending::Removing => REMOVING,
-    }
-}
-
 // The row's pending operation is p; the slot's number stays.
 pub fn set_pending(m: &mut [u8], i: usize, p: Pending)
     requires { Room m.old × (i < length (flat_of m.old).rows) }
@@ -277,7 +232,7 @@ pub fn set_pending(m: &mut [u8], i: usize, p: Pending)
 {
     let a = ref_place(m, i);
     let s = memory_bytes::get2(m, a) % SLOT_LIMIT;
-    memory_bytes::put2(m, a, s + pending_code(p) * SLOT_LIMIT);
+    memory_bytes::put2(m, a, s + u16::from(p) * SLOT_LIMIT);
 }
 
 // ---- searches by key, among the rows from s up to, not including, e
@@ -343,7 +298,7 @@ pub fn insert_row(m: &mut [u8], i: usize, row: Row, payload: &[u8])
     let o = row.owner;
     let state = block_forms::flags_of(o, row.mark, payload.len());
     let p = row.pending;
-    let r = s + pending_code(p) * SLOT_LIMIT;
+    let r = s + u16::from(p) * SLOT_LIMIT;
     fill_slot(m, s as usize, row.number, block_forms::word_of(o), payload);
     raise_rows(m, c, i, n);
     put_cells(m, c, i, row.key, r, state);
@@ -360,7 +315,7 @@ pub fn append_row(m: &mut [u8], row: Row, payload: &[u8])
     let o = row.owner;
     let state = block_forms::flags_of(o, row.mark, payload.len());
     let p = row.pending;
-    let r = n as u16 + pending_code(p) * SLOT_LIMIT;
+    let r = n as u16 + u16::from(p) * SLOT_LIMIT;
     fill_slot(m, n, row.number, block_forms::word_of(o), payload);
     put_cells(m, c, n, row.key, r, state);
     memory_bytes::put4(m, memory_layout::places::ROW_COUNT, (n + 1) as u32);

@@ -5,24 +5,11 @@ ghost use Rattle.image.specs.Stages.{capacity_limit};
 ghost use Rattle.memory_layout.specs.Places.{slot_size, keys_at, refs_at, states_at};
 ghost use Rattle.memory_layout.specs.Views.{slot_of, slot_place, ref_of, state_of};
 ghost use Rattle.memory_layout.specs.Flat.{flat_of, capacity_of, Room};
-ghost use Rattle.memory_rows.specs.Cells.{slot_at, Capacity};
+ghost use Rattle.memory_rows.specs.Cells.{slot_at};
 
 use super::SLOT_LIMIT;
-use memory_layout::places::{CAPACITY, HEAD_SIZE, KEYS, REFS, ROW_COUNT, SLOT_SIZE, STATES};
-
-pub fn capacity(m: &[u8]) -> usize
-    requires { Room m.now }
-    ensures { Capacity m.now result }
-{
-    memory_bytes::get4(m, CAPACITY) as usize
-}
-
-pub fn row_count(m: &[u8]) -> usize
-    requires { Room m.now }
-    ensures { result ≡ length (flat_of m.now).rows }
-{
-    memory_bytes::get4(m, ROW_COUNT) as usize
-}
+use memory_layout::capacity;
+use memory_layout::places::{HEAD_SIZE, KEYS, REFS, SLOT_SIZE, STATES};
 
 pub fn keys_at(c: usize) -> usize
     requires { c ≤ capacity_limit }
@@ -59,10 +46,7 @@ pub fn slot_of(c: usize, r: u16) -> usize
     ensures { (result ≡ slot_of c r) × (result < c) }
 {
     let s = (r % SLOT_LIMIT) as usize;
-    if s < c {
-        return s;
-    }
-    0
+    if s < c { s } else { 0 }
 }
 
 // Where the key of row i stands.

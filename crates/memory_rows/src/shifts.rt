@@ -16,11 +16,7 @@ pub fn take_eight(m: &[u8], c: usize, i: usize) -> Eight
     memory_bytes::copy_out(m, keys_at(c) + i * 4, 32, &mut keys);
     memory_bytes::copy_out(m, refs_at(c) + i * 2, 16, &mut refs);
     memory_bytes::copy_out(m, states_at(c) + i, 8, &mut states);
-    Eight {
-        keys: keys,
-        refs: refs,
-        states: states,
-    }
+    Eight { keys, refs, states }
 }
 
 // The eight rows from row k on get these cells.
@@ -28,12 +24,9 @@ pub fn give_eight(m: &mut [u8], c: usize, k: usize, rows: Eight)
     requires { EightInto m.old c k rows }
     ensures { (m₀ : List ℕ) (i : ℕ) → EightOf m₀ c i rows → EightPut m₀ m.old m.new c i k }
 {
-    let keys = rows.keys;
-    let refs = rows.refs;
-    let states = rows.states;
-    memory_bytes::write(m, keys_at(c) + k * 4, &keys);
-    memory_bytes::write(m, refs_at(c) + k * 2, &refs);
-    memory_bytes::write(m, states_at(c) + k, &states);
+    memory_bytes::write(m, keys_at(c) + k * 4, &rows.keys);
+    memory_bytes::write(m, refs_at(c) + k * 2, &rows.refs);
+    memory_bytes::write(m, states_at(c) + k, &rows.states);
 }
 
 // The eight rows from row k on get the cells that the eight from row i on had.
@@ -44,9 +37,9 @@ pub fn copy_eight(m: &mut [u8], c: usize, i: usize, k: usize)
     let keys = keys_at(c);
     let refs = refs_at(c);
     let states = states_at(c);
-    memory_bytes::copy32(m, keys + i * 4, keys + k * 4);
-    memory_bytes::copy16(m, refs + i * 2, refs + k * 2);
-    memory_bytes::copy8(m, states + i, states + k);
+    memory_bytes::copy::<32>(m, keys + i * 4, keys + k * 4);
+    memory_bytes::copy::<16>(m, refs + i * 2, refs + k * 2);
+    memory_bytes::copy::<8>(m, states + i, states + k);
 }
 
 // Of n rows, those from row i on, eight or more, go one up: by blocks whose new place is a multiple of eight, from the last one down. The
@@ -57,6 +50,7 @@ pub fn raise_eights(m: &mut [u8], c: usize, i: usize, n: usize)
 {
     let first = take_eight(m, c, i);
     let last = take_eight(m, c, n - 8);
+    // No `for`: a range that steps down by eight is no plainer; and `lower_eights` is its mirror.
     let mut k = (n + 1) / 8 * 8 - 1;
     while i + 8 < k {
         k -= 8;
@@ -73,6 +67,7 @@ pub fn lower_eights(m: &mut [u8], c: usize, i: usize, n: usize)
 {
     let first = take_eight(m, c, i + 1);
     let last = take_eight(m, c, n - 8);
+    // No `for`: the mirror of `raise_eights`.
     let mut k = (i + 7) / 8 * 8;
     while k + 9 < n {
         copy_eight(m, c, k + 1, k);

@@ -7,7 +7,8 @@ ghost use Rattle.memory_layout.specs.Flat.{flat_of, capacity_of, Room};
 ghost use Rattle.memory_rows.specs.Cells.{ColumnsFit, CellsPut, SlotInto, SlotFilled, SlotNumbers, slot_in, is_taken};
 
 use super::SLOT_LIMIT;
-use super::places::{capacity, keys_at, refs_at, row_count, slot_at, slot_of, states_at};
+use super::places::{keys_at, refs_at, slot_at, slot_of, states_at};
+use memory_layout::{capacity, row_count};
 
 // Whether one of the n rows is in slot 0; a row whose slot number is not below the capacity is in slot 0 too.
 pub fn zero_taken(m: &[u8], c: usize, n: usize) -> bool
@@ -16,10 +17,8 @@ pub fn zero_taken(m: &[u8], c: usize, n: usize) -> bool
 {
     let a = refs_at(c);
     let mut hit = false;
-    let mut i: usize = 0;
-    while i < n {
-        hit = hit | (slot_of(c, memory_bytes::get2(m, a + i * 2)) == 0);
-        i += 1;
+    for i in 0..n {
+        hit |= slot_of(c, memory_bytes::get2(m, a + i * 2)) == 0;
     }
     hit
 }
@@ -42,6 +41,7 @@ pub fn search_slot(m: &[u8]) -> u16
     requires { Room m.now × (length (flat_of m.now).rows < capacity_of m.now) }
     ensures { (result < capacity_of m.now) × (is_taken m.now result ≡ false) }
 {
+    // No `for`: it would want an answer behind its end, which is never reached.
     let mut s: u16 = 0;
     while is_taken(m, s) {
         s += 1;
@@ -56,10 +56,8 @@ pub fn free_slot(m: &[u8]) -> u16
 {
     let c = capacity(m);
     let s = memory_bytes::get2(m, refs_at(c) + row_count(m) * 2) % SLOT_LIMIT;
-    if (s as usize) < c {
-        if !is_taken(m, s) {
-            return s;
-        }
+    if (s as usize) < c && !is_taken(m, s) {
+        return s;
     }
     search_slot(m)
 }

@@ -3,79 +3,72 @@
 #![tactic(auto)]
 
 use call_contracts::Answer;
-use replay_memory::{first, lend, on_memory, say_answer};
-use replay_script::{Call, Extent};
+use replay_memory::{Area, on_memory, say_answer};
+use replay_script::{Call, Room};
 use std::io;
 use std::io::Write;
 
-pub fn make(
-    out: &mut impl Write,
-    image: &mut [u8],
-    m: &mut [u8],
-    capacity: u64,
-) -> io::Result<Answer> {
-    let a = store::make(image, m, capacity);
-    say_answer(out, a)?;
-    Ok(a)
+// The image and the memory of a script. A call is lent as much of both as the last accepted make, recovery or roll-forward.
+#[derive(Drop)]
+pub struct Areas {
+    pub image: Area,
+    pub memory: Area,
 }
 
-pub fn recover(out: &mut impl Write, image: &[u8], m: &mut [u8]) -> io::Result<Answer> {
-    let a = store::recover(image, m);
-    say_answer(out, a)?;
-    Ok(a)
-}
-
-// How many bytes of the image are lent to a step or run: those that it asks for, or len.
-fn extent(asked: Extent, len: u64) -> u64 {
-    match asked {
-        Extent::Lent => len,
-        Extent::Bytes(n) => n,
+impl Areas {
+    pub fn make(
+        &mut self,
+        out: &mut impl Write,
+        bytes: usize,
+        capacity: u64,
+        room: usize,
+    ) -> io::Result<()> {
+        let a = store::make(self.image.first(bytes), self.memory.first(room), capacity);
+        self.lend_after(a, bytes, room);
+        say_answer(out, a)
     }
-}
 
-fn step(out: &mut impl Write, image: &mut [u8], m: &mut [u8], len: u64) -> io::Result<()> {
-    say_answer(out, store::step(lend(image, len), m))
-}
-
-fn run(
-    out: &mut impl Write,
-    image: &mut [u8],
-    m: &mut [u8],
-    len: u64,
-    limit: u64,
-) -> io::Result<()> {
-    say_answer(out, store::run(lend(image, len), m, limit))
-}
-
-fn on_image(
-    out: &mut impl Write,
-    image: &mut [u8],
-    len: u64,
-    m: &mut [u8],
-    call: Call,
-    payload: &[u8],
-    hours: &[u8],
-) -> io::Result<()> {
-    match call {
-        Call::Step(e) => step(out, image, m, extent(e, len)),
-        Call::Run(limit, e) => run(out, image, m, extent(e, len), limit),
-        Call::Fill(block, byte) => replay_text::fill(out, image, block, byte),
-        Call::Show(block) => replay_text::show(out, image, block),
-        Call::Digest => replay_text::say_digest(out, first(image, len)),
-        _ => on_memory(out, m, call, payload, hours),
+    pub fn recover(&mut self, out: &mut impl Write, bytes: usize, room: usize) -> io::Result<()> {
+        let a = store::recover(self.image.first(bytes), self.memory.first(room));
+        self.lend_after(a, bytes, room);
+        say_answer(out, a)
     }
-}
 
-// Replays a line that leaves what is lent: the image's area, of which len bytes are lent, and the memory.
-pub fn replay_line(
-    out: &mut impl Write,
-    line: &[u8],
-    image: &mut [u8],
-    len: u64,
-    m: &mut [u8],
-) -> io::Result<()> {
-    let mut payload = [0u8; replay_script::PAYLOAD_ROOM];
-    let mut hours = [0u8; replay_script::HOURS_ROOM];
-    let call = replay_script::call_of(line, &mut payload, &mut hours);
-    on_image(out, image, len, m, call, &payload, &hours)
+    // So many bytes are lent to the calls that follow, if the one that asked for them was accepted.
+    pub fn lend_after(&mut self, a: Answer, image: usize, memory: usize) {
+        if a.is_ok() {
+            self.image.lend(image);
+            self.memory.lend(memory);
+        }
+    }
+
+    // Zeros, nothing of them lent.
+    pub fn clear(&mut self) {
+        self.image.clear(0);
+        self.memory.clear(0);
+    }
+
+    fn call(&mut self, out: &mut impl Write, call: Call<'_>) -> io::Result<()> {
+        let Areas { image, memory } = self;
+        match call {
+            Call::Step(asked) => say_answer(out, store::step(image.part(asked), memory.lent())),
+            Call::Run(limit, asked) => say_answer(
+                out,
+                store::run(image.part(asked), memory.lent(), limit),
+            ),
+            Call::Fill(block, byte) => replay_text::fill(out, image.all(), block, byte),
+            Call::Show(block) => replay_text::show(out, image.all(), block),
+            Call::Digest => replay_text::say_digest(out, image.lent()),
+            _ => on_memory(out, memory.lent(), call),
+        }
+    }
+
+    // Replays a line that leaves what is lent.
+    pub fn line(&mut self, out: &mut impl Write, line: &str) -> io::Result<()> {
+        let mut room = Room::new();
+        match replay_script::call_of(line, &mut room) {
+            Some(call) => self.call(out, call),
+            None => replay_text::bad_line(out),
+        }
+    }
 }

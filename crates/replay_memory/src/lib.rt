@@ -1,11 +1,12 @@
-// The calls of a replayed script that have to do with the memory alone: made, and what they answer printed.
+// The calls of a replayed script that have to do with the memory alone: made, and what they answer printed. And areas of bytes, of which a script
+// lends parts to its calls.
 #![tactic(auto)]
 
 ghost use Rattle.std.specs.Prelude.{OnOk};
 ghost use Rattle.std.specs.Io.KnownBytes.{Appends};
 ghost use Rattle.replay_memory.specs.Text.{answer_text};
 
-use call_contracts::Answer;
+use call_contracts::{Answer, Reply};
 use replay_script::{Call, Interval, Target};
 use std::io;
 use std::io::Write;
@@ -16,21 +17,52 @@ const REPLY_SIZE: usize = 4096;
 // ---- what is lent
 
 // The first n bytes; all if there are fewer.
-pub fn first(s: &[u8], n: u64) -> &[u8] {
-    if n < s.len() as u64 {
-        let k = n as usize;
-        return &s[..k];
-    }
-    s
+pub fn first(s: &mut [u8], n: usize) -> &mut [u8] {
+    let n = n.min(s.len());
+    &mut s[..n]
 }
 
-// The first n bytes, to be written; all if there are fewer.
-pub fn lend(s: &mut [u8], n: u64) -> &mut [u8] {
-    if n < s.len() as u64 {
-        let k = n as usize;
-        return &mut s[..k];
+// An area of bytes, and how many of them, its first, are lent to a call; all if it has fewer.
+#[derive(Drop)]
+pub struct Area {
+    bytes: Vec<u8>,
+    lent: usize,
+}
+
+impl Area {
+    // Nothing of it is lent.
+    pub fn new(bytes: Vec<u8>) -> Area {
+        Area { bytes, lent: 0 }
     }
-    s
+
+    pub fn all(&mut self) -> &mut [u8] {
+        &mut self.bytes
+    }
+
+    pub fn first(&mut self, n: usize) -> &mut [u8] {
+        first(&mut self.bytes, n)
+    }
+
+    // The part that is lent.
+    pub fn lent(&mut self) -> &mut [u8] {
+        first(&mut self.bytes, self.lent)
+    }
+
+    // The first bytes that a call asks for, or what is lent.
+    pub fn part(&mut self, asked: Option<usize>) -> &mut [u8] {
+        first(&mut self.bytes, asked.unwrap_or(self.lent))
+    }
+
+    // From now on the first n bytes are lent.
+    pub fn lend(&mut self, n: usize) {
+        self.lent = n;
+    }
+
+    // Zeros, of which the first n are lent.
+    pub fn clear(&mut self, n: usize) {
+        self.bytes.fill(0);
+        self.lent = n;
+    }
 }
 
 // ---- answers
@@ -39,99 +71,72 @@ pub fn say_answer<W: Write>(out: &mut W, a: Answer) -> io::Result<()>
     ensures { OnOk result (Appends (W.contents out.old) (W.contents out.new) (answer_text a)) }
 {
     match a {
-        Answer::Done => replay_script::say(out, b"done\n"),
-        Answer::Count(n) => replay_text::say_line(out, b"", n),
-        Answer::Filled(n) => replay_text::say_line(out, b"", n as u64),
-        Answer::Refused(n) => replay_text::say_line(out, b"refused ", n),
+        Ok(Reply::Done) => replay_script::say(out, b"done\n"),
+        Ok(Reply::Count(n)) => replay_text::say_line(out, b"", n),
+        Ok(Reply::Filled(n)) => replay_text::say_line(out, b"", n as u64),
+        Err(e) => replay_text::say_line(out, b"refused ", u64::from(e)),
+    }
+}
+
+// How many a filled reply has; none of another answer.
+fn filled(a: Answer) -> Option<usize> {
+    match a {
+        Ok(Reply::Filled(n)) => Some(n),
+        _ => None,
     }
 }
 
 // ---- calls
 
-fn insert(out: &mut impl Write, m: &mut [u8], t: Target, payload: &[u8]) -> io::Result<()> {
-    say_answer(
-        out,
-        store::insert(m, t.transaction, t.table, t.key, payload),
-    )
-}
-
-fn checked(
-    out: &mut impl Write,
-    m: &mut [u8],
-    t: Target,
-    payload: &[u8],
-    hours: &[u8],
-) -> io::Result<()> {
-    say_answer(
-        out,
-        store::insert_checked(m, t.transaction, t.table, t.key, payload, hours),
-    )
-}
-
-fn replace(out: &mut impl Write, m: &mut [u8], t: Target, payload: &[u8]) -> io::Result<()> {
-    say_answer(
-        out,
-        store::replace(m, t.transaction, t.table, t.key, payload),
-    )
-}
-
-fn delete(out: &mut impl Write, m: &mut [u8], t: Target) -> io::Result<()> {
-    say_answer(out, store::delete(m, t.transaction, t.table, t.key))
-}
-
-fn read(out: &mut impl Write, m: &[u8], t: Target, room: u64) -> io::Result<()> {
-    let mut reply = [0u8; REPLY_SIZE];
-    let a = store::read(m, t.transaction, t.table, t.key, lend(&mut reply, room));
-    match a {
-        Answer::Filled(len) => replay_text::say_payload(out, &reply, len),
-        _ => say_answer(out, a),
+fn read(out: &mut impl Write, m: &[u8], t: Target, room: usize) -> io::Result<()> {
+    let mut reply = [0; REPLY_SIZE];
+    let a = store::read(m, t.transaction, t.table, t.key, first(&mut reply, room));
+    match filled(a) {
+        Some(len) => replay_text::say_payload(out, first(&mut reply, len)),
+        None => say_answer(out, a),
     }
 }
 
-fn crossing(out: &mut impl Write, m: &[u8], i: Interval, room: u64) -> io::Result<()> {
-    let mut reply = [0u8; REPLY_SIZE];
-    let to = lend(&mut reply, room);
+fn crossing(out: &mut impl Write, m: &[u8], i: Interval, room: usize) -> io::Result<()> {
+    let mut reply = [0; REPLY_SIZE];
+    let to = first(&mut reply, room);
     let a = store::crossing(m, i.transaction, i.table, i.first, i.end, to);
-    match a {
-        Answer::Filled(count) => replay_text::say_crossing(out, &reply, count),
-        _ => say_answer(out, a),
+    match filled(a) {
+        Some(count) => replay_text::say_crossing(out, &reply, count),
+        None => say_answer(out, a),
     }
 }
 
-fn list(out: &mut impl Write, m: &[u8], room: u64) -> io::Result<()> {
-    let mut reply = [0u8; REPLY_SIZE];
-    let a = store::list(m, lend(&mut reply, room));
-    match a {
-        Answer::Filled(count) => replay_text::say_listing(out, &reply, count),
-        _ => say_answer(out, a),
+fn list(out: &mut impl Write, m: &[u8], room: usize) -> io::Result<()> {
+    let mut reply = [0; REPLY_SIZE];
+    let a = store::list(m, first(&mut reply, room));
+    match filled(a) {
+        Some(count) => replay_text::say_listing(out, &reply, count),
+        None => say_answer(out, a),
     }
 }
 
-pub fn on_memory(
-    out: &mut impl Write,
-    m: &mut [u8],
-    call: Call,
-    payload: &[u8],
-    hours: &[u8],
-) -> io::Result<()> {
-    match call {
-        Call::Open(t) => say_answer(out, store::open(m, t)),
-        Call::Commit(t) => say_answer(out, store::commit(m, t)),
-        Call::Abort(t) => say_answer(out, store::abort(m, t)),
-        Call::Insert(t, len) => insert(out, m, t, first(payload, len)),
-        Call::Checked(t, len, hours_len) => checked(
-            out,
+pub fn on_memory(out: &mut impl Write, m: &mut [u8], call: Call<'_>) -> io::Result<()> {
+    let answer = match call {
+        Call::Open(t) => store::open(m, t),
+        Call::Commit(t) => store::commit(m, t),
+        Call::Abort(t) => store::abort(m, t),
+        Call::Insert(t, payload) => store::insert(m, t.transaction, t.table, t.key, payload),
+        Call::Checked(t, payload, hours) => store::insert_checked(
             m,
-            t,
-            first(payload, len),
-            first(hours, hours_len),
+            t.transaction,
+            t.table,
+            t.key,
+            payload,
+            hours,
         ),
-        Call::Replace(t, len) => replace(out, m, t, first(payload, len)),
-        Call::Delete(t) => delete(out, m, t),
-        Call::Read(t, room) => read(out, m, t, room),
-        Call::Crossing(i, room) => crossing(out, m, i, room),
-        Call::List(room) => list(out, m, room),
-        Call::Begin => say_answer(out, store::begin(m)),
-        _ => replay_text::bad_line(out),
-    }
+        Call::Replace(t, payload) => store::replace(m, t.transaction, t.table, t.key, payload),
+        Call::Delete(t) => store::delete(m, t.transaction, t.table, t.key),
+        Call::Read(t, room) => return read(out, m, t, room),
+        Call::Crossing(i, room) => return crossing(out, m, i, room),
+        Call::List(room) => return list(out, m, room),
+        Call::Begin => store::begin(m),
+        _ => return replay_text::bad_line(out),
+    };
+    say_answer(out, answer)
 }

@@ -15,10 +15,12 @@ use Rattle.model.proofs.Laws.{refused_keeps, reads_only}
 use Rattle.memory_layout.specs.Store.{store_in}
 use Rattle.log_records.specs.Records.{LogRecord, log_size, encode_record}
 use Rattle.log_model.specs.Logged.{LoggedOutcome, unlogged, appending, logging, mark_for}
-use Rattle.call_contracts.specs.Shape.{meaning, bytes_of, MemoryAfter, Afterwards, Answers, AnswersAt, StoredBy, Stores, StoresAt}
+use Rattle.std.specs.Prelude.{Ok, Err}
+use Rattle.refusals.specs.declared.Refusal.TheVariants.{LogFull}
+use Rattle.refusals.proofs.Numbers.{only_log_full}
+use Rattle.call_contracts.specs.Shape.{Answer as Answered, meaning, bytes_of, MemoryAfter, Afterwards, Answers, AnswersAt, StoredBy, Stores, StoresAt}
 use Rattle.call_contracts.specs.Logged.{LoggedAfter, LogsAt, Logs}
-use Rattle.call_contracts.specs.declared.Answer.{Answer as Answered}
-use Rattle.call_contracts.specs.declared.Answer.TheVariants.{Done, Count, Filled, Refused}
+use Rattle.call_contracts.specs.declared.Reply.TheVariants.{Done, Count, Filled}
 use Rattle.call_contracts.specs.declared.Logged.{Logged}
 use Rattle.model.specs.State as model
 use Rattle.store.specs.CrashRecovery.{Executes, transacting, reading, crossing, listing, beginning, logging as logged, marking, stepping, running, stepping_elsewhere}
@@ -41,35 +43,35 @@ code_of model.done = (1, 0)
 code_of (model.count n) = (2, n)
 code_of (model.filled n bs) = (3, n)
 
-pub means_done : (a : Answered) → meaning a [] ≡ model.done → a ≡ Done
-means_done Done e = refl
-means_done (Count n) e = absurd (differ (ap (λ x. (code_of x).0) e))
+pub means_done : (a : Answered) → meaning a [] ≡ model.done → a ≡ Ok Done
+means_done (Ok Done) e = refl
+means_done (Ok (Count n)) e = absurd (differ (ap (λ x. (code_of x).0) e))
   where
     differ : ◌≡◌ {A = ℕ} 2 1 → ⊥
     differ k = omega (arith, k)
-means_done (Filled n) e = absurd (differ (ap (λ x. (code_of x).0) e))
+means_done (Ok (Filled n)) e = absurd (differ (ap (λ x. (code_of x).0) e))
   where
     differ : ◌≡◌ {A = ℕ} 3 1 → ⊥
     differ k = omega (arith, k)
-means_done (Refused n) e = absurd (differ (ap (λ x. (code_of x).0) e))
+means_done (Err r) e = absurd (differ (ap (λ x. (code_of x).0) e))
   where
     differ : ◌≡◌ {A = ℕ} 0 1 → ⊥
     differ k = omega (arith, k)
 
-pub means_refused : (a : Answered) (n : ℕ) → meaning a [] ≡ model.refused n → a ≡ Refused n
-means_refused Done n e = absurd (differ (ap (λ x. (code_of x).0) e))
+pub means_full : (a : Answered) → meaning a [] ≡ model.refused 29 → a ≡ Err LogFull
+means_full (Ok Done) e = absurd (differ (ap (λ x. (code_of x).0) e))
   where
     differ : ◌≡◌ {A = ℕ} 1 0 → ⊥
     differ k = omega (arith, k)
-means_refused (Count m) n e = absurd (differ (ap (λ x. (code_of x).0) e))
+means_full (Ok (Count m)) e = absurd (differ (ap (λ x. (code_of x).0) e))
   where
     differ : ◌≡◌ {A = ℕ} 2 0 → ⊥
     differ k = omega (arith, k)
-means_refused (Filled m) n e = absurd (differ (ap (λ x. (code_of x).0) e))
+means_full (Ok (Filled m)) e = absurd (differ (ap (λ x. (code_of x).0) e))
   where
     differ : ◌≡◌ {A = ℕ} 3 0 → ⊥
     differ k = omega (arith, k)
-means_refused (Refused m) n e = ap Refused (ap (λ x. (code_of x).1) e)
+means_full (Err r) e = ap Err (only_log_full r (ap (λ x. (code_of x).1) e))
 
 -- ---- logged calls
 
@@ -90,7 +92,7 @@ module _ (x : LogRecord) (o : Outcome) (s : Store) (log : List ℕ) (e : ℕ) (k
   logged_stores = by (accepted o.answer) (λ a. by (ltb (length log) (e + log_size x)) (λ k. rw (a, k)) (λ k. rw (a, k) none-stored)) (λ a. rw a none-stored)
 
   -- not refused for want of room, it has done what the plain call does
-  pub logged_is : (m m' log' : List ℕ) (r : Logged) → LoggedAfter L m r m' log' → (r.answer ≡ Refused 29 → ⊥) → Afterwards o m r.answer m'
+  pub logged_is : (m m' log' : List ℕ) (r : Logged) → LoggedAfter L m r m' log' → (r.answer ≡ Err LogFull → ⊥) → Afterwards o m r.answer m'
   unfolding logging appending unlogged gives if'◌then◌else◌
   logged_is m m' log' r l n = go (logging x o s log e) refl l
     where
@@ -100,7 +102,7 @@ module _ (x : LogRecord) (o : Outcome) (s : Store) (log : List ℕ) (e : ℕ) (k
           (λ a. by (ltb (length log) (e + log_size x))
           (λ k. let z : LoggedOutcome = unlogged (gives (model.refused 29) s) log e in
           let y : LoggedAfter z m r m' log' = subst (λ w. LoggedAfter w m r m' log') (sym h ∙ (rw (a, k))) l in
-          absurd (n (means_refused r.answer 29 y.answer)))
+          absurd (n (means_full r.answer y.answer)))
           (λ k. let z : LoggedOutcome = record { outcome = o; records = x ∷ []; log = over log e (encode_record x); end = e + log_size x } in
           let y : LoggedAfter z m r m' log' = subst (λ w. LoggedAfter w m r m' log') (sym h ∙ (rw (a, k))) l in
           record { answer = y.answer; memory = y.memory }))
@@ -109,7 +111,7 @@ module _ (x : LogRecord) (o : Outcome) (s : Store) (log : List ℕ) (e : ℕ) (k
           record { answer = y.answer; memory = y.memory })
 
 -- refused for want of room, it leaves the memory
-pub full_leaves : (f : Store → Outcome) (x : Store → LogRecord) (m m₁ log log' : List ℕ) (e : ℕ) (r : Logged) → Logs f x m log e r m₁ log' → r.answer ≡ Refused 29 → m₁ ≡ m
+pub full_leaves : (f : Store → Outcome) (x : Store → LogRecord) (m m₁ log log' : List ℕ) (e : ℕ) (r : Logged) → Logs f x m log e r m₁ log' → r.answer ≡ Err LogFull → m₁ ≡ m
 unfolding Logs LogsAt
 full_leaves f x m m₁ log log' e r l h = go (store_in m) l
   where
@@ -133,7 +135,7 @@ module _ (c : Call) (s : Store) (m : List ℕ) (e : store_in m ≡ some s) where
 
   -- with its record, if there was room
   answered_logged : (x : Store → LogRecord) (log log' : List ℕ) (n : ℕ) (r : Logged) (m' : List ℕ) → is_step c ≡ false → Logs (call c) x m log n r m' log'
-      → (r.answer ≡ Refused 29 → ⊥) → store_in m' ≡ some (call c s).store
+      → (r.answer ≡ Err LogFull → ⊥) → store_in m' ≡ some (call c s).store
   unfolding Logs LogsAt
   answered_logged x log log' n r m' i a h =
       let o : Outcome = call c s in

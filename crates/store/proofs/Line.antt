@@ -16,12 +16,11 @@ use Rattle.model.proofs.NoStores.{call_leaves}
 use Rattle.model.proofs.Claim.{writes_ok}
 use Rattle.model.proofs.Line.{length_after, started, crash_recovery}
 use Rattle.memory_layout.specs.Store.{store_in, HoldsNow}
-use Rattle.call_contracts.specs.Shape.{meaning, MadeBy, Made, RecoveredBy, Recovered}
-use Rattle.call_contracts.specs.declared.Answer.{Answer}
-use Rattle.call_contracts.specs.declared.Answer.TheVariants.{Done, Count, Filled, Refused}
+use Rattle.std.specs.Prelude.{Ok}
+use Rattle.call_contracts.specs.Shape.{Answer, meaning, MadeBy, Made, RecoveredBy, Recovered}
+use Rattle.call_contracts.specs.declared.Reply.TheVariants.{Done}
 use Rattle.store.specs.CrashRecovery.{Started, made, recovered, Starts, ExecutesAll, ends, full, next, Restored, CrashRecovery}
-use Rattle.store.proofs.Follows.{does, full_leaves, all_typed}
-use Rattle.model.specs.CrashRecovery as model
+use Rattle.store.proofs.Follows.{means_done, does, full_leaves, all_typed}
 use Rattle.model.specs.State as answer
 
 abbrev writes_in : List Logged → List Write
@@ -83,25 +82,18 @@ is_done answer.done = 1
 is_done (answer.count n) = 0
 is_done (answer.filled n bs) = 0
 
-done_alone : (r : Answer) → meaning r [] ≡ answer.done → r ≡ Done
-unfolding is_done
-done_alone Done e = refl
-done_alone (Count n) e = let z : ◌≡◌ {A = ℕ} 0 1 = ap is_done e in absurd (omega (arith, z))
-done_alone (Filled n) e = let z : ◌≡◌ {A = ℕ} 0 1 = ap is_done e in absurd (omega (arith, z))
-done_alone (Refused n) e = let z : ◌≡◌ {A = ℕ} 0 1 = ap is_done e in absurd (omega (arith, z))
-
 -- a refusal is not answered by done
 unanswered : {X : Type 0} (k : ℕ) → answer.done ≡ answer.refused k → X
 unfolding is_done
 unanswered k e = let z : ◌≡◌ {A = ℕ} 1 0 = ap is_done e in absurd (omega (arith, z))
 
-make_starts : (img₀ m₀ : List ℕ) (n : ℕ) (img m : List ℕ) (st : Stage Store) → make (length img₀) (length m₀) n ≡ st → MadeBy st n img₀ m₀ Done img m
-    → Made n img₀ m₀ Done img m → (s : Store) × Started img m s
+make_starts : (img₀ m₀ : List ℕ) (n : ℕ) (img m : List ℕ) (st : Stage Store) → make (length img₀) (length m₀) n ≡ st → MadeBy st n img₀ m₀ (Ok Done) img m
+    → Made n img₀ m₀ (Ok Done) img m → (s : Store) × Started img m s
 unfolding MadeBy
 make_starts img₀ m₀ n img m (refuses k) e a b = unanswered k a.0
 make_starts img₀ m₀ n img m (holds s) e a b = (s, made img₀ m₀ n e b)
 
-recovery_starts : (img m₀ m : List ℕ) (st : Stage Store) → recover (length m₀) img ≡ st → RecoveredBy st m₀ Done m → Recovered img m₀ Done m
+recovery_starts : (img m₀ m : List ℕ) (st : Stage Store) → recover (length m₀) img ≡ st → RecoveredBy st m₀ (Ok Done) m → Recovered img m₀ (Ok Done) m
     → (s : Store) × Started img m s
 unfolding RecoveredBy
 recovery_starts img m₀ m (refuses k) e a b = unanswered k a.0
@@ -118,7 +110,7 @@ restored : (s t : Store) (base : List Call) (cut m₀ m₁ : List ℕ) (r : Answ
 unfolding RecoveredBy
 restored s t base cut m₀ m₁ r e same k =
     let q : (meaning r [] ≡ answer.done) × HoldsNow m₀ m₁ t = rw e at k in
-    record { accepted = done_alone r q.0; store = t; has_store = q.1.store; same = same }
+    record { accepted = means_done r q.0; store = t; has_store = q.1.store; same = same }
 
 -- ---- the claim
 

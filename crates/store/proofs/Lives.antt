@@ -1,11 +1,11 @@
 -- The promise over the contracts: lives of a program follow histories of the rules.
-use Rattle.basics.proofs.Kit.{◌≡◌, refl, sym, ap, ◌∙◌, subst, false, some, none, List, [], ◌++◌, ℕ, ◌+◌, take, length, arith, ◌⊎◌, inl, inr, ⊎_elim}
+use Rattle.basics.proofs.Kit.{◌≡◌, refl, sym, ap, ◌∙◌, subst, false, some, none, List, [], ◌++◌, ℕ, take, length, arith, ◌⊎◌, inl, inr, ⊎_elim}
 use Rattle.basics.proofs.Elements.{some_eq}
 use Rattle.block_forms.specs.Spell.{zeros}
 use Rattle.image.specs.Stages.{Stage, refuses, holds}
 use Rattle.image.proofs.Staged.{refuses-holds, holds_eq}
 use Rattle.model.specs.State.{Store, refused}
-use Rattle.model.specs.Calls.{Call, transacts, begins, call, Typed, is_step, accepted}
+use Rattle.model.specs.Calls.{Call, transacts, begins, call, Typed, is_step}
 use Rattle.model.specs.Recover.{image_after, make, made_image}
 use Rattle.memory_layout.specs.Store.{store_in}
 use Rattle.log_records.specs.Records.{LogRecord, read_log}
@@ -19,11 +19,12 @@ use Rattle.model.proofs.NoStores.{call_leaves}
 use Rattle.model.proofs.Laws.{refused_keeps}
 use Rattle.call_contracts.specs.Shape.{meaning, Made, MadeBy}
 use Rattle.call_contracts.specs.Logged.{LoggedAfter, LogsAt, Logs, ForwardsBy}
-use Rattle.call_contracts.specs.declared.Answer.TheVariants.{Done}
+use Rattle.std.specs.Prelude.{Ok}
+use Rattle.call_contracts.specs.declared.Reply.TheVariants.{Done}
 use Rattle.call_contracts.specs.declared.Logged.{Logged}
 use Rattle.store.specs.NothingLost as lost
 use Rattle.store.specs.NothingLost.{Acts, logging as logs, marking, acting, Lives, starts, goes_on, stops, lengthens, restarts, stops_again, BroughtBack, NothingLost, AnsweredIsWhole}
-use Rattle.store.proofs.Follows.{does, typed, leaves, still, code_of, means_done, means_refused, logged_keeps, logged_stores}
+use Rattle.store.proofs.Follows.{does, typed, leaves, still, code_of, means_done, means_full, logged_keeps, logged_stores}
 use Rattle.model.specs.State as model
 
 -- what a life has: a history of the rules, whose store the memory holds
@@ -97,12 +98,12 @@ abbrev Holds : Store → List ℕ → List ℕ → lost.Phase → Type 0
 Holds s₀ img log (lost.alive m e) = Follows s₀ img log m e
 Holds s₀ img log lost.off = History s₀ img log history.stopped
 
-made_holds : (s₀ : Store) (img₀ m₀ img m : List ℕ) (n : ℕ) → make (length img₀) (length m₀) n ≡ holds s₀ → Made n img₀ m₀ Done img m
+made_holds : (s₀ : Store) (img₀ m₀ img m : List ℕ) (n : ℕ) → make (length img₀) (length m₀) n ≡ holds s₀ → Made n img₀ m₀ (Ok Done) img m
     → (img ≡ made_image img₀ n) × (store_in m ≡ some s₀)
 unfolding MadeBy
 made_holds s₀ img₀ m₀ img m n h x = let y = rw h at x in (y.1.0, y.1.1.store)
 
-forward_holds : (st : Stage Forward) (m₀ log m log' : List ℕ) (r : Logged) → ForwardsBy st m₀ log r m log' → r.answer ≡ Done
+forward_holds : (st : Stage Forward) (m₀ log m log' : List ℕ) (r : Logged) → ForwardsBy st m₀ log r m log' → r.answer ≡ Ok Done
     → (f : Forward) × (st ≡ holds f) × (r.end ≡ f.end) × (store_in m ≡ some f.store) × (log' ≡ f.log)
 unfolding ForwardsBy
 forward_holds (refuses k) m₀ log m log' r x d = absurd (differ (ap (λ y. (code_of y).0) (sym (ap (λ y. meaning y []) d) ∙ x.0)))
@@ -145,7 +146,7 @@ brought : (s₀ : Store) (records : List LogRecord) (st : Stage Forward) (m log 
     → (st ≡ refuses 29) ⊎ ((f : Forward) × (st ≡ holds f) × BringsBack f.store (completed records s₀)) → BroughtBack s₀ records r m'
 unfolding ForwardsBy
 brought s₀ records (refuses k) m log m' log' r x p =
-    ⊎_elim (λ e. record { result = inl (means_refused r.answer 29 (x.0 ∙ ap model.refused (refused_eq e))) }) (λ q. refuses-holds q.1) p
+    ⊎_elim (λ e. record { result = inl (means_full r.answer (x.0 ∙ ap model.refused (refused_eq e))) }) (λ q. refuses-holds q.1) p
 brought s₀ records (holds f) m log m' log' r x p =
     ⊎_elim (λ e. refuses-holds (sym e)) (λ q. record { result = inr (means_done r.answer x.0, (q.0.store, x.2.store ∙ ap (λ y. some y.store) (holds_eq q.1), q.2)) }) p
 

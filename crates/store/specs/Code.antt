@@ -1,9 +1,9 @@
 -- What a call answers to C: one number.
-use Rattle.std.specs.Prelude.{◌≡◌, ℕ, min, ℤ, pos, neg_ℤ}
+use Rattle.std.specs.Prelude.{◌≡◌, ℕ, min, ℤ, pos, neg_ℤ, Ok, Err}
 use Rattle.basics.specs.Basics.{if'◌then◌else◌}
-use Rattle.call_contracts.specs.Shape.{is_accepted}
-use Rattle.call_contracts.specs.declared.Answer.{Answer}
-use Rattle.call_contracts.specs.declared.Answer.TheVariants.{Done, Count, Filled, Refused}
+use Rattle.refusals.specs.Numbers.{number}
+use Rattle.call_contracts.specs.Shape.{Answer, is_accepted}
+use Rattle.call_contracts.specs.declared.Reply.TheVariants.{Done, Count, Filled}
 use Rattle.call_contracts.specs.declared.Logged.{Logged}
 
 -- n, or the largest number of 64 bits with a sign if n is larger; every answer and refusal is far below
@@ -12,10 +12,10 @@ clamped n = min n 9223372036854775807
 
 -- the call's answer, 0 where none is named, or minus the refusal's number
 unfoldable pub code : Answer → ℤ
-code Done = pos 0
-code (Count n) = pos (clamped n)
-code (Filled n) = pos (clamped n)
-code (Refused n) = neg_ℤ (pos (clamped n))
+code (Ok Done) = pos 0
+code (Ok (Count n)) = pos (clamped n)
+code (Ok (Filled n)) = pos (clamped n)
+code (Err e) = neg_ℤ (pos (clamped (number e)))
 
 -- x is the number of an answer for which this holds
 pub record Coded (x : ℤ) (Holds : Answer → Type 0) : Type 0 where

@@ -1,5 +1,5 @@
 -- Crash recovery (document 01: the quoted line), whole: about every program that makes the calls, each of which does what its contract says, and about every cut.
-use Rattle.std.specs.Prelude.{ℕ, ◌≤◌, ◌≡◌, List, [], ◌∷◌, map, length}
+use Rattle.std.specs.Prelude.{ℕ, ◌≤◌, ◌≡◌, List, [], ◌∷◌, map, length, Ok, Err}
 use Rattle.std.proofs.Math.Option.{some}
 use Rattle.block_forms.specs.Tuple.{AllBytes}
 use Rattle.image.specs.Stages.{holds}
@@ -13,23 +13,23 @@ use Rattle.model.specs.CrashRecovery.{log, Cut, Same}
 use Rattle.log_records.specs.Records.{LogRecord}
 use Rattle.log_model.specs.Logged.{record_of, mark_for}
 use Rattle.memory_layout.specs.Store.{store_in}
-use Rattle.call_contracts.specs.Shape.{Answers, Replies, Stores, Made, Recovered}
+use Rattle.call_contracts.specs.Shape.{Answer, Answers, Replies, Stores, Made, Recovered}
 use Rattle.call_contracts.specs.Logged.{Logs}
-use Rattle.call_contracts.specs.declared.Answer.{Answer}
-use Rattle.call_contracts.specs.declared.Answer.TheVariants.{Done, Refused}
+use Rattle.call_contracts.specs.declared.Reply.TheVariants.{Done}
+use Rattle.refusals.specs.declared.Refusal.TheVariants.{LogFull}
 use Rattle.call_contracts.specs.declared.Logged.{Logged}
 
 -- ---- where a run starts
 
 -- the image img and the memory m after an accepted make or recovery; s: the store that the rules start with
 pub data Started : List ℕ → List ℕ → Store → Type 0 where
-  made : (img₀ m₀ : List ℕ) (n : ℕ) {img m : List ℕ} {s : Store} → make (length img₀) (length m₀) n ≡ holds s → Made n img₀ m₀ Done img m → Started img m s
-  recovered : (m₀ : List ℕ) {img m : List ℕ} {s : Store} → recover (length m₀) img ≡ holds s → Recovered img m₀ Done m → Started img m s
+  made : (img₀ m₀ : List ℕ) (n : ℕ) {img m : List ℕ} {s : Store} → make (length img₀) (length m₀) n ≡ holds s → Made n img₀ m₀ (Ok Done) img m → Started img m s
+  recovered : (m₀ : List ℕ) {img m : List ℕ} {s : Store} → recover (length m₀) img ≡ holds s → Recovered img m₀ (Ok Done) m → Started img m s
 
 -- every accepted make and every accepted recovery is such a start
 pub record Starts : Type 0 where
-  pub make : (img₀ m₀ : List ℕ) (n : ℕ) (img m : List ℕ) → Made n img₀ m₀ Done img m → (s : Store) × Started img m s
-  pub recovery : (img m₀ m : List ℕ) → Recovered img m₀ Done m → (s : Store) × Started img m s
+  pub make : (img₀ m₀ : List ℕ) (n : ℕ) (img m : List ℕ) → Made n img₀ m₀ (Ok Done) img m → (s : Store) × Started img m s
+  pub recovery : (img m₀ m : List ℕ) → Recovered img m₀ (Ok Done) m → (s : Store) × Started img m s
 
 -- ---- one call
 
@@ -48,8 +48,8 @@ pub data Executes : Call → List ℕ → List ℕ → List ℕ → List ℕ →
   running : {limit : ℕ} {img m img' m' : List ℕ} (r : Answer) → Stores (run_call limit (length img)) img m r img' m' → Executes (runs limit (length img)) img m img' m'
   -- the same calls, logged, and a logged begin: what their log is does not matter, as long as they are not refused for it
   logging : {c : TransactionCall} {img m m' : List ℕ} {x : LogRecord} (redo redo' : List ℕ) (e : ℕ) (r : Logged) → record_of c ≡ some x → TypedCall c
-      → Logs (transact c) (λ s. x) m redo e r m' redo' → (r.answer ≡ Refused 29 → ⊥) → Executes (transacts c) img m img m'
-  marking : {img m m' : List ℕ} (redo redo' : List ℕ) (e : ℕ) (r : Logged) → Logs begin_call mark_for m redo e r m' redo' → (r.answer ≡ Refused 29 → ⊥)
+      → Logs (transact c) (λ s. x) m redo e r m' redo' → (r.answer ≡ Err LogFull → ⊥) → Executes (transacts c) img m img m'
+  marking : {img m m' : List ℕ} (redo redo' : List ℕ) (e : ℕ) (r : Logged) → Logs begin_call mark_for m redo e r m' redo' → (r.answer ≡ Err LogFull → ⊥)
       → Executes begins img m img m'
   -- a step or run that is lent something of another length than the image
   stepping_elsewhere : {img m m' : List ℕ} (p p' : List ℕ) (r : Answer) → (length p ≡ length img → ⊥) → Stores (step_call (length p)) p m r p' m'
@@ -62,14 +62,14 @@ pub data ExecutesAll : List Call → List ℕ → List ℕ → List ℕ → List
   ends : {img m : List ℕ} → ExecutesAll [] img m img m
   -- a logged call, whatever call it is, for whose record there is no room changes nothing: it counts for no call
   full : {cs : List Call} {img m m₁ img' m' : List ℕ} (f : Store → Outcome) (x : Store → LogRecord) (redo redo' : List ℕ) (e : ℕ) (r : Logged)
-      → Logs f x m redo e r m₁ redo' → r.answer ≡ Refused 29 → ExecutesAll cs img m₁ img' m' → ExecutesAll cs img m img' m'
+      → Logs f x m redo e r m₁ redo' → r.answer ≡ Err LogFull → ExecutesAll cs img m₁ img' m' → ExecutesAll cs img m img' m'
   next : {c : Call} {cs : List Call} {img m img₁ m₁ img' m' : List ℕ} → Executes c img m img₁ m₁ → ExecutesAll cs img₁ m₁ img' m' → ExecutesAll (c ∷ cs) img m img' m'
 
 -- ---- the claim
 
 -- recovery is accepted, and the memory then holds what the rules' own run of the calls base from s had
 pub record Restored (s : Store) (base : List Call) (r : Answer) (m : List ℕ) : Type 0 where
-  pub accepted : r ≡ Done
+  pub accepted : r ≡ Ok Done
   pub store : Store
   pub has_store : store_in m ≡ some store
   pub same : Same store s base

@@ -1,6 +1,6 @@
 -- No booking whose commit was answered is lost: about every program that logs its calls, each of which does what its contract says, about every cut, and
 -- about every number of lives, each of which but the first starts with a roll-forward.
-use Rattle.std.specs.Prelude.{ℕ, ◌≤◌, ◌≡◌, true, List, ◌++◌, ◌⊎◌, length, take}
+use Rattle.std.specs.Prelude.{ℕ, ◌≤◌, ◌≡◌, true, List, ◌++◌, ◌⊎◌, length, take, Ok, Err}
 use Rattle.std.proofs.Math.Option.{none, some}
 use Rattle.block_forms.specs.Tuple.{AllBytes}
 use Rattle.block_forms.specs.Spell.{zeros}
@@ -18,7 +18,8 @@ use Rattle.log_model.specs.History.{stores_of, completed, BringsBack}
 use Rattle.memory_layout.specs.Store.{store_in}
 use Rattle.call_contracts.specs.Shape.{Made}
 use Rattle.call_contracts.specs.Logged.{Logs, Forwards}
-use Rattle.call_contracts.specs.declared.Answer.TheVariants.{Done, Refused}
+use Rattle.call_contracts.specs.declared.Reply.TheVariants.{Done}
+use Rattle.refusals.specs.declared.Refusal.TheVariants.{LogFull}
 use Rattle.call_contracts.specs.declared.Logged.{Logged}
 use Rattle.store.specs.CrashRecovery.{Executes}
 
@@ -44,7 +45,7 @@ pub data Phase : Type 0 where
 
 -- what image and log may be in a history that starts with an accepted make of the store s₀ and a zeroed log
 pub data Lives (s₀ : Store) : List ℕ → List ℕ → Phase → Type 0 where
-  starts : (img₀ m₀ : List ℕ) (n size : ℕ) {img m : List ℕ} → AllBytes img₀ → make (length img₀) (length m₀) n ≡ holds s₀ → Made n img₀ m₀ Done img m
+  starts : (img₀ m₀ : List ℕ) (n size : ℕ) {img m : List ℕ} → AllBytes img₀ → make (length img₀) (length m₀) n ≡ holds s₀ → Made n img₀ m₀ (Ok Done) img m
       → Lives s₀ img (zeros size) (alive m 0)
   -- a call, with image, memory, log and end as last left
   goes_on : {c : Call} {img m log img' m' log' : List ℕ} {e e' : ℕ} → Lives s₀ img log (alive m e) → Acts c img m log e img' m' log' e'
@@ -55,7 +56,7 @@ pub data Lives (s₀ : Store) : List ℕ → List ℕ → Phase → Type 0 where
   -- a longer copy of the log is lent, zeroed behind the old bytes
   lengthens : {img log : List ℕ} {ph : Phase} → Lives s₀ img log ph → (n : ℕ) → Lives s₀ img (log ++ zeros n) ph
   -- an accepted roll-forward, in whatever memories
-  restarts : {img log m log' : List ℕ} → Lives s₀ img log off → (m₀ : List ℕ) (n : ℕ) {r : Logged} → Forwards img m₀ n log r m log' → r.answer ≡ Done
+  restarts : {img log m log' : List ℕ} → Lives s₀ img log off → (m₀ : List ℕ) (n : ℕ) {r : Logged} → Forwards img m₀ n log r m log' → r.answer ≡ Ok Done
       → Lives s₀ img log' (alive m r.end)
   -- power fails before, after or inside any store of a roll-forward
   stops_again : {img log log' : List ℕ} → Lives s₀ img log off → (m n : ℕ) {f : Forward} → roll_forward m n img log ≡ holds f
@@ -65,7 +66,7 @@ pub data Lives (s₀ : Store) : List ℕ → List ℕ → Phase → Type 0 where
 
 -- a roll-forward answers r and leaves m: it meets 29, or m holds what the whole records committed
 pub record BroughtBack (s₀ : Store) (records : List LogRecord) (r : Logged) (m : List ℕ) : Type 0 where
-  pub result : (r.answer ≡ Refused 29) ⊎ ((r.answer ≡ Done) × ((t : Store) × (store_in m ≡ some t) × BringsBack t (completed records s₀)))
+  pub result : (r.answer ≡ Err LogFull) ⊎ ((r.answer ≡ Ok Done) × ((t : Store) × (store_in m ≡ some t) × BringsBack t (completed records s₀)))
 
 -- what is promised of an image and a log as power left them
 pub record RestartPromise (s₀ : Store) (img log : List ℕ) : Type 0 where

@@ -1,7 +1,7 @@
 // The store's calls for C, or any language that calls C: a static library. Each does what its call of crate store does, and answers one number.
 #![tactic(auto)]
 
-ghost use Rattle.std.specs.Prelude.{◌≡◌, pos, length};
+ghost use Rattle.std.specs.Prelude.{◌≡◌, pos, length, Ok};
 ghost use Rattle.model.specs.Transactions.{open_call, insert_call, replace_call, delete_call, commit_call, abort_call, read_call, list_call};
 ghost use Rattle.model.specs.Checked.{insert_checked_call};
 ghost use Rattle.model.specs.Crossing.{crossing_call};
@@ -12,7 +12,7 @@ ghost use Rattle.call_contracts.specs.Shape.{Answers, Replies, Stores, Made, Rec
 ghost use Rattle.call_contracts.specs.Logged.{Logs, Forwards};
 ghost use Rattle.store.specs.Code.{clamped, code, Coded, CodedLog, CodedForward};
 
-use call_contracts::{Answer, is_accepted};
+use call_contracts::{Answer, Reply};
 
 // n, or the largest i64 if n is larger.
 fn clamped(n: u64) -> i64
@@ -24,15 +24,24 @@ fn clamped(n: u64) -> i64
     9223372036854775807
 }
 
-// The number that an answer is to C.
-fn code(a: Answer) -> i64
-    ensures { result ≡ code a }
+// The number that a reply is to C.
+fn reply_code(reply: Reply) -> i64
+    ensures { result ≡ code (Ok reply) }
 {
-    match a {
-        Answer::Done => 0,
-        Answer::Count(n) => clamped(n),
-        Answer::Filled(n) => clamped(n as u64),
-        Answer::Refused(n) => -clamped(n),
+    match reply {
+        Reply::Done => 0,
+        Reply::Count(n) => clamped(n),
+        Reply::Filled(n) => clamped(n as u64),
+    }
+}
+
+// The number that an answer is to C.
+fn code(answer: Answer) -> i64
+    ensures { result ≡ code answer }
+{
+    match answer {
+        Ok(reply) => reply_code(reply),
+        Err(refusal) => -clamped(u64::from(refusal)),
     }
 }
 
@@ -186,10 +195,9 @@ pub extern "C" fn vodzanu_logged_open(
         Logs (open_call transaction) (λ s. opened_by transaction)
         memory.old log.old end.old a memory.new log.new) }
 {
-    let r = store::logged_open(memory, log, *end, transaction);
-    *end = r.end;
-    let a = r.answer;
-    code(a)
+    let logged = store::logged_open(memory, log, *end, transaction);
+    *end = logged.end;
+    code(logged.answer)
 }
 
 #[unsafe(no_mangle)]
@@ -206,10 +214,9 @@ pub extern "C" fn vodzanu_logged_insert(
         Logs (insert_call transaction table key payload.now) (λ s. inserted_by transaction table key payload.now)
         memory.old log.old end.old a memory.new log.new) }
 {
-    let r = store::logged_insert(memory, log, *end, transaction, table, key, payload);
-    *end = r.end;
-    let a = r.answer;
-    code(a)
+    let logged = store::logged_insert(memory, log, *end, transaction, table, key, payload);
+    *end = logged.end;
+    code(logged.answer)
 }
 
 #[unsafe(no_mangle)]
@@ -227,7 +234,7 @@ pub extern "C" fn vodzanu_logged_insert_checked(
         Logs (insert_checked_call transaction table key payload.now hours.now) (λ s. inserted_by transaction table key payload.now)
         memory.old log.old end.old a memory.new log.new) }
 {
-    let r = store::logged_insert_checked(
+    let logged = store::logged_insert_checked(
         memory,
         log,
         *end,
@@ -237,9 +244,8 @@ pub extern "C" fn vodzanu_logged_insert_checked(
         payload,
         hours,
     );
-    *end = r.end;
-    let a = r.answer;
-    code(a)
+    *end = logged.end;
+    code(logged.answer)
 }
 
 #[unsafe(no_mangle)]
@@ -256,10 +262,9 @@ pub extern "C" fn vodzanu_logged_replace(
         Logs (replace_call transaction table key payload.now) (λ s. replaced_by transaction table key payload.now)
         memory.old log.old end.old a memory.new log.new) }
 {
-    let r = store::logged_replace(memory, log, *end, transaction, table, key, payload);
-    *end = r.end;
-    let a = r.answer;
-    code(a)
+    let logged = store::logged_replace(memory, log, *end, transaction, table, key, payload);
+    *end = logged.end;
+    code(logged.answer)
 }
 
 #[unsafe(no_mangle)]
@@ -275,10 +280,9 @@ pub extern "C" fn vodzanu_logged_delete(
         Logs (delete_call transaction table key) (λ s. deleted_by transaction table key)
         memory.old log.old end.old a memory.new log.new) }
 {
-    let r = store::logged_delete(memory, log, *end, transaction, table, key);
-    *end = r.end;
-    let a = r.answer;
-    code(a)
+    let logged = store::logged_delete(memory, log, *end, transaction, table, key);
+    *end = logged.end;
+    code(logged.answer)
 }
 
 #[unsafe(no_mangle)]
@@ -292,10 +296,9 @@ pub extern "C" fn vodzanu_logged_commit(
         Logs (commit_call transaction) (λ s. committed_by transaction)
         memory.old log.old end.old a memory.new log.new) }
 {
-    let r = store::logged_commit(memory, log, *end, transaction);
-    *end = r.end;
-    let a = r.answer;
-    code(a)
+    let logged = store::logged_commit(memory, log, *end, transaction);
+    *end = logged.end;
+    code(logged.answer)
 }
 
 #[unsafe(no_mangle)]
@@ -309,20 +312,18 @@ pub extern "C" fn vodzanu_logged_abort(
         Logs (abort_call transaction) (λ s. aborted_by transaction)
         memory.old log.old end.old a memory.new log.new) }
 {
-    let r = store::logged_abort(memory, log, *end, transaction);
-    *end = r.end;
-    let a = r.answer;
-    code(a)
+    let logged = store::logged_abort(memory, log, *end, transaction);
+    *end = logged.end;
+    code(logged.answer)
 }
 
 #[unsafe(no_mangle)]
 pub extern "C" fn vodzanu_logged_begin(memory: &mut [u8], log: &mut [u8], end: &mut u64) -> i64
     ensures { CodedLog result end.new (λ a. Logs begin_call mark_for memory.old log.old end.old a memory.new log.new) }
 {
-    let r = store::logged_begin(memory, log, *end);
-    *end = r.end;
-    let a = r.answer;
-    code(a)
+    let logged = store::logged_begin(memory, log, *end);
+    *end = logged.end;
+    code(logged.answer)
 }
 
 // The end is only put, and only where the roll-forward is accepted.
@@ -337,10 +338,9 @@ pub extern "C" fn vodzanu_roll_forward(
     ensures { CodedForward result end.old end.new (λ a.
         Forwards image.now memory.old (length second.old) log.old a memory.new log.new) }
 {
-    let r = store::roll_forward(image, memory, second, log);
-    let a = r.answer;
-    if is_accepted(a) {
-        *end = r.end;
+    let forwarded = store::roll_forward(image, memory, second, log);
+    if forwarded.answer.is_ok() {
+        *end = forwarded.end;
     }
-    code(a)
+    code(forwarded.answer)
 }

@@ -8,6 +8,6 @@ pub returns-then-flags-lt-COMMITTED : goal.returns-then-flags-lt-COMMITTED
 unfolding read_owner if'◌then◌else◌
 returns-then-flags-lt-COMMITTED c = simp (lt-ltb _ _ c.if-flags-lt-COMMITTED.true)
 
-pub returns : goal.returns
+pub returns-else-flags-lt-COMMITTED : goal.returns-else-flags-lt-COMMITTED
 unfolding read_owner if'◌then◌else◌
-returns c = simp (le-ltb _ _ c.if-flags-lt-COMMITTED.false)
+returns-else-flags-lt-COMMITTED c = simp (le-ltb _ _ c.if-flags-lt-COMMITTED.false)

@@ -1,4 +1,4 @@
-use Rattle.basics.proofs.Kit.{◌≡◌, ℕ, ◌≤◌, ◌<◌, ◌-◌, length, take, get_or}
+use Rattle.basics.proofs.Kit.{◌≡◌, ℕ, ◌<◌, length, take, get_or}
 use Rattle.block_bits.specs.Bits.{bits_in}
 use Rattle.block_forms.specs.Limits.{block_size}
 use Rattle.block_forms.specs.Spell.{padded}
@@ -6,7 +6,4 @@ use Rattle.block_forms.proofs.Entries.{dir_bits}
 use Rattle.block_forms.proofs.spell_directory.Given as goal
 
 abbrev pub invariant-loop-i : goal.invariant-loop-i
-invariant-loop-i l = (l.i ≤ l.count) × ((length l.block ≡ block_size) × (((j : ℕ) → get_or l.block j 0 < 256) × (bits_in l.block ≡ padded (dir_bits l.level l.count (take l.i l.entries)))))
-
-abbrev pub decreases-loop-i : goal.decreases-loop-i
-decreases-loop-i l = l.count - l.i
+invariant-loop-i l = (length l.block ≡ block_size) × (((j : ℕ) → get_or l.block j 0 < 256) × (bits_in l.block ≡ padded (dir_bits l.level l.count (take l.i l.entries))))

@@ -19,6 +19,3 @@ unfolding encode_block
 returns c = let p = c.put_fields in
     let a = c.args in
     whole_block (header_fields a.h) a.block.now p.new.block c.requires.1 (omega arith) (omega (arith, p.auto, c.requires.0)) (λ j. omega (arith, c.type_inv.block j)) p.ensures
-
-pub overflow_cast-values-10 : goal.overflow_cast-values-10
-overflow_cast-values-10 c = omega (arith, c.struct_known-10-1)

@@ -1,39 +1,22 @@
--- `calendar::is_calendar` meets its contract: its two tests of the length, then a walk along the rows.
-use Rattle.basics.proofs.Kit.{sym, ◌∙◌, arith}
-use Rattle.basics.specs.Basics.{all}
-use Rattle.basics.proofs.Iterations.{all_yes, all_not}
-use Rattle.calendar.proofs.Rows.{too_many, not_whole, by_rows, walk_start, walk_next, walk_end}
+-- `calendar::is_calendar` meets its contract: its two tests of the length, then one of the rows (`rows_given`).
+use Rattle.basics.proofs.Kit.{sym, ◌∙◌, eqb-true, eqb-false, lt-leb, rules}
+use Rattle.basics.proofs.Facts.{lie}
+use Rattle.basics.proofs.Iterators.{all_listed}
+use Rattle.std.proofs.lemmas.Iterator.Search.{all_from_yields_List}
+use Rattle.calendar.specs.Calendar.{in_range}
+use Rattle.calendar.proofs.Rows.{too_many, not_whole, by_rows, rows_given}
 use Rattle.calendar.proofs.is_calendar.Goals as goal
+use Rattle.calendar.proofs.is_calendar.Goals.{then-hours, else-hours}
 
-pub returns-then-n : goal.returns-then-n
-returns-then-n c = too_many _ (omega arith)
+pub returns-then-hours-eq0 : goal.returns-then-hours-eq0
+returns-then-hours-eq0 c = let ys = rows_given _ c.chunks_exact.ensures.size c.chunks_exact.ensures.rest in
+    let r = all_from_yields_List in_range _ _ c.all.result c.all.ensures.ran ys (λ x b q k. search rules) in elim c.if-hours.branch [
+      | then-hours w ↦ r ∙ all_listed in_range _ ∙ by_rows _ w.if-hours.true (eqb-true _ _ (sym w.value-is ∙ c.if-hours-eq0.true))
+      | else-hours w ↦ lie (sym (lt-leb _ _ w.if-hours.false) ∙ sym w.value-is ∙ c.if-hours-eq0.true)
+    ]
 
-pub returns-then-n-ne0 : goal.returns-then-n-ne0
-returns-then-n-ne0 c = not_whole _ (omega arith) c.if-n-ne0.true
-
-pub loop-at-init : goal.loop-at-init
-loop-at-init c = (omega arith, omega arith, walk_start _ _)
-
-pub row_at-requires : goal.row_at-requires
-row_at-requires c = omega (arith, c.loop-at.invariant.2.aligned)
-
-pub returns-then-not-in_range : goal.returns-then-not-in_range
-returns-then-not-in_range c = let h = c.loop-at.invariant in
-    sym (sym (by_rows _ h.0 h.1) ∙ h.2.left ∙ all_not _ c.row_at.ensures (sym c.in_range.ensures ∙ c.if-not-in_range.true))
-
-pub overflow_add-at : goal.overflow_add-at
-overflow_add-at c = omega arith
-
-pub loop-at-smaller : goal.loop-at-smaller
-loop-at-smaller c = omega arith
-
-pub loop-at-preserved : goal.loop-at-preserved
-loop-at-preserved c = let h = c.loop-at.invariant in
-    (h.0, h.1, walk_next _ _ _ h.2 (omega arith) h.1 (all_yes _ c.row_at.ensures (sym c.in_range.ensures ∙ c.if-not-in_range.false)))
-
-pub returns : goal.returns
-unfolding all
-returns c = let h = c.loop-at.invariant in sym (sym (by_rows _ h.0 h.1) ∙ walk_end _ _ _ h.2 (omega arith))
-
-pub overflow_mul-t-4 : goal.overflow_mul-t-4
-overflow_mul-t-4 c = omega arith
+pub returns-else-hours-eq0 : goal.returns-else-hours-eq0
+returns-else-hours-eq0 c = c.if-hours-eq0.false ∙ elim c.if-hours.branch [
+  | then-hours w ↦ not_whole _ w.if-hours.true (eqb-false _ _ (sym w.value-is ∙ c.if-hours-eq0.false))
+  | else-hours w ↦ too_many _ w.if-hours.false
+]

@@ -3,8 +3,8 @@ use Rattle.calendar.proofs.Lengths.{minutes_short, minutes_two}
 use Rattle.basics.proofs.Kit.{sym, ◌∙◌, arith}
 use Rattle.calendar.proofs.minutes.Goals as goal
 
-pub returns-then-payload-lt2 : goal.returns-then-payload-lt2
-returns-then-payload-lt2 c = (sym (minutes_short _ (omega arith)), omega arith)
+pub returns-in_default : goal.returns-in_default
+returns-in_default c = (sym (minutes_short _ (omega arith)), omega arith)
 
-pub returns : goal.returns
-returns c = let t = c.two_bytes.ensures in (t.0 ∙ sym (minutes_two _ (omega arith)), t.1)
+pub returns-in-len2-up : goal.returns-in-len2-up
+returns-in-len2-up c = (c.two_bytes.ensures.0 ∙ sym (minutes_two _ (omega arith)), c.two_bytes.ensures.1)

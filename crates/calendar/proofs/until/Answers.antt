@@ -7,6 +7,6 @@ pub returns-then-b-a : goal.returns-then-b-a
 unfolding until
 returns-then-b-a c = omega arith
 
-pub returns : goal.returns
+pub returns-else-b-a : goal.returns-else-b-a
 unfolding until
-returns c = omega arith
+returns-else-b-a c = omega arith

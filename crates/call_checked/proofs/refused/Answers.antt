@@ -1,5 +1,5 @@
 -- `call_checked::refused` meets its contract.
-use Rattle.basics.proofs.Kit.{◌∙◌, sym, not-true, not-false, rules}
+use Rattle.basics.proofs.Kit.{◌∙◌, sym}
 use Rattle.basics.specs.Basics.{if'◌then◌else◌}
 use Rattle.call_checked.proofs.refused.Goals as goal
 

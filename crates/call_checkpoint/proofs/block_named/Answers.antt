@@ -1,5 +1,5 @@
 -- `call_checkpoint::block_named` meets its contract: an index below the number of pages is a page's, the others are of the directory (`page_block`, `directory_block`).
-use Rattle.basics.proofs.Kit.{ap, ◌∙◌, ℕ, ◌-◌, length, get_or, rules, arith}
+use Rattle.basics.proofs.Kit.{ap, ◌∙◌, ℕ, ◌-◌, length, get_or, arith}
 use Rattle.memory_layout.specs.Flat.{flat_of}
 use Rattle.memory_layout.proofs.Laws.{named_read}
 use Rattle.call_checkpoint.proofs.Leaving.{named_low, directory_low, named_count_lem, page_block, directory_block}

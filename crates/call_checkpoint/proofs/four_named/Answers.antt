@@ -1,5 +1,5 @@
 -- `call_checkpoint::four_named` meets its contract: the four tests joined are the test of the four entries in a list.
-use Rattle.basics.proofs.Kit.{rules, arith}
+use Rattle.basics.proofs.Kit.{arith}
 use Rattle.basics.specs.Basics.{all}
 use Rattle.basics.proofs.Ands.{and_yes, and_assoc}
 use Rattle.call_checkpoint.specs.Counting.{is_named, four_named}

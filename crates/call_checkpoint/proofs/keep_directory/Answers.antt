@@ -1,5 +1,5 @@
 -- `call_checkpoint::keep_directory` meets its contract: the block is in use and the list of directory blocks has it last, which is the model's store.
-use Rattle.basics.proofs.Kit.{ap, length, rules, arith}
+use Rattle.basics.proofs.Kit.{ap, length, arith}
 use Rattle.memory_layout.specs.Flat.{Flat}
 use Rattle.memory_layout.proofs.Laws.{holds_room}
 use Rattle.call_checkpoint.proofs.Leaving.{directory_holds}

@@ -1,5 +1,5 @@
 -- `call_checkpoint::keep_header` meets its contract: the blocks named are those in use, and the head is that of an idle store at the next level.
-use Rattle.basics.proofs.Kit.{refl, ap, rules, arith}
+use Rattle.basics.proofs.Kit.{refl, ap, arith}
 use Rattle.memory_layout.specs.declared.Head.{Head}
 use Rattle.memory_layout.proofs.Laws.{holds_room}
 use Rattle.call_checkpoint.proofs.Leaving.{header_low, header_holds}

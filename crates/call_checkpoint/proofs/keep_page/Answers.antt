@@ -1,5 +1,5 @@
 -- `call_checkpoint::keep_page` meets its contract: the page is still the first frozen one when it is thawed (`still_first`), and the store is then the model's.
-use Rattle.basics.proofs.Kit.{rules, arith}
+use Rattle.basics.proofs.Kit.{arith}
 use Rattle.memory_layout.proofs.Laws.{holds_room}
 use Rattle.call_checkpoint.proofs.Leaving.{still_first, page_holds}
 use Rattle.call_checkpoint.proofs.keep_page.Goals as goal

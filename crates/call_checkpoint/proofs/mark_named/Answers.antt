@@ -1,13 +1,9 @@
 -- `call_checkpoint::mark_named` meets its contract. The invariant: the first i blocks named are in use, and all others as at entry (`Marking`).
-use Rattle.basics.proofs.Kit.{ap, ◌∙◌, List, ℕ, ◌-◌, length, get_or, rules, arith}
+use Rattle.basics.proofs.Kit.{ap, ◌∙◌, List, ℕ, length, get_or, arith}
 use Rattle.memory_layout.specs.Flat.{flat_of}
-use Rattle.call_checkpoint.specs.Counting.{named_in}
-use Rattle.memory_layout.proofs.Laws.{named_read, directories_read, sizes}
-use Rattle.call_checkpoint.proofs.Leaving.{Marking, marking_start, marking_iteration, marking_same, marking_end, named_count_lem}
+use Rattle.memory_layout.proofs.Laws.{named_read, directories_read}
+use Rattle.call_checkpoint.proofs.Leaving.{marking_start, marking_iteration, marking_same, marking_end, named_count_lem}
 use Rattle.call_checkpoint.proofs.mark_named.Goals as goal
-
-pub get_counts-c-requires : goal.get_counts-c-requires
-get_counts-c-requires c = omega (arith, c.requires.range.long)
 
 pub loop-i-init : goal.loop-i-init
 loop-i-init c = let e = c.get_counts-c.ensures in
@@ -18,22 +14,10 @@ pub block_named-b-requires : goal.block_named-b-requires
 block_named-b-requires c = let k = c.loop-i.invariant in
     (k.becomes.room, omega (arith, k.whole, c.loop-i-test.true, ap length (marking_same k)))
 
-pub mark_used-requires : goal.mark_used-requires
-mark_used-requires c = (c.loop-i.invariant.becomes.room, c.block_named-b.ensures.1)
-
-pub overflow_add-i : goal.overflow_add-i
-overflow_add-i c = omega (arith, c.loop-i.invariant.whole, c.loop-i-test.true, named_count_lem (flat_of c.args.m.now), sizes c.requires)
-
-pub loop-i-smaller : goal.loop-i-smaller
-loop-i-smaller c = omega (arith, c.loop-i-test.true)
-
 pub loop-i-preserved : goal.loop-i-preserved
 loop-i-preserved c = let l = c.loop-i in
     let e = c.block_named-b.ensures.0 ∙ ap (λ (bs : List ℕ). get_or bs l.i 0) (marking_same l.invariant) in
     marking_iteration l.invariant c.loop-i-test.true _ e _ c.mark_used.ensures
-
-pub shape_of-m : goal.shape_of-m
-shape_of-m c = c.loop-i.invariant.becomes.size
 
 pub returns : goal.returns
 returns c = marking_end c.loop-i.invariant c.loop-i-test.false

@@ -1,5 +1,5 @@
 -- `call_checkpoint::start` meets its contract: the list of pages is fixed before the pages are frozen, which leaves their blocks (`begin_held`).
-use Rattle.basics.proofs.Kit.{refl, ap, rules}
+use Rattle.basics.proofs.Kit.{refl, ap}
 use Rattle.memory_layout.specs.Flat.{Flat}
 use Rattle.memory_layout.proofs.Laws.{holds_room}
 use Rattle.call_checkpoint.proofs.Beginning.{held_still, head_replaces, taken_low, begin_held, begin_holds}

@@ -1,5 +1,5 @@
 -- `call_checkpoint::store_directory` meets its contract: the part of the image that is lent is the free block's (`back_is`), and image and store are the model's (`directory_does`).
-use Rattle.basics.proofs.Kit.{ap, ◌+◌, length-take, length-drop, rules, arith}
+use Rattle.basics.proofs.Kit.{ap, ◌+◌, length-take, length-drop, arith}
 use Rattle.model.specs.Checkpoint.{with_progress}
 use Rattle.memory_layout.specs.declared.Head.{Head}
 use Rattle.memory_layout.proofs.Laws.{directories_read, holds_room, sizes}

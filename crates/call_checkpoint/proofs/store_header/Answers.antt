@@ -1,6 +1,6 @@
 -- `call_checkpoint::store_header` meets its contract: the part of the image that is lent is block 0 (`front_is`), and image and store are the model's (`header_does`).
 use Rattle.block_forms.specs.Limits.{block_size}
-use Rattle.basics.proofs.Kit.{length-take, rules, arith}
+use Rattle.basics.proofs.Kit.{length-take, arith}
 use Rattle.memory_layout.proofs.Laws.{holds_room, sizes}
 use Rattle.call_checkpoint.proofs.Allotting.{none_left}
 use Rattle.call_checkpoint.proofs.Stepping.{front_is, header_does}
@@ -9,6 +9,9 @@ use Rattle.call_checkpoint.proofs.store_header.Goals as goal
 
 pub slice_bounds-write_header-end : goal.slice_bounds-write_header-end
 slice_bounds-write_header-end c = let p = c.requires.ready in omega (arith, p.long, sizes (holds_room _ p.runs.has_store))
+
+pub slice_bounds-write_header-end-2 : goal.slice_bounds-write_header-end-2
+slice_bounds-write_header-end-2 c = let p = c.requires.ready in omega (arith, p.long, sizes (holds_room _ p.runs.has_store), length-take block_size c.args.image.now)
 
 pub write_header-requires : goal.write_header-requires
 write_header-requires c = let p = c.requires.ready in

@@ -1,5 +1,5 @@
 -- `call_checkpoint::store_next` meets its contract: without a block left it is the header's store, else a block's, and one less is left (`header_left`, `block_less`).
-use Rattle.basics.proofs.Kit.{◌≡◌, sym, ap, rules, arith}
+use Rattle.basics.proofs.Kit.{◌≡◌, sym, ap, arith}
 use Rattle.memory_layout.specs.declared.Head.{Head}
 use Rattle.memory_layout.specs.Flat.{flat_of, no_entry}
 use Rattle.memory_layout.proofs.Laws.{holds_room, sizes}

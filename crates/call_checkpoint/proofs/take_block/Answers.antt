@@ -1,5 +1,5 @@
 -- `call_checkpoint::take_block` meets its contract: the head has the block as the one last taken, and its bit is set (`took`).
-use Rattle.basics.proofs.Kit.{refl, ap, rules, arith}
+use Rattle.basics.proofs.Kit.{refl, ap, arith}
 use Rattle.memory_layout.specs.declared.Head.{Head}
 use Rattle.call_checkpoint.proofs.Leaving.{took}
 use Rattle.call_checkpoint.proofs.Beginning.{head_replaces}

@@ -1,5 +1,5 @@
 -- `call_checkpoint::write_block` meets its contract: a frozen page comes first, and without one it is the directory's turn (`found_none`).
-use Rattle.basics.proofs.Kit.{rules, arith}
+use Rattle.basics.proofs.Kit.{arith}
 use Rattle.memory_layout.proofs.Laws.{pages_read, holds_room, sizes}
 use Rattle.engine_pages.specs.Pages.{There}
 use Rattle.call_checkpoint.proofs.Stepping.{found_none}

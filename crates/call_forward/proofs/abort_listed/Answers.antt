@@ -1,5 +1,5 @@
 -- `call_forward::abort_listed` meets its contract: the numbers sorted, each aborted, and the aborts over zeros.
-use Rattle.basics.proofs.Kit.{◌≡◌, ◌++◌, ◌-◌, length, take, drop, length-take, length-drop, rules, arith}
+use Rattle.basics.proofs.Kit.{◌≡◌, ◌++◌, ◌-◌, length, take, drop, length-take, length-drop, arith}
 use Rattle.memory_layout.proofs.Laws.{holds_room}
 use Rattle.log_model.specs.RollForward.{zeroed_from}
 use Rattle.call_forward.proofs.Ending.{cleared, aborts_fit, all_aborted}

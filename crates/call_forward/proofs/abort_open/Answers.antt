@@ -1,5 +1,5 @@
 -- `call_forward::abort_open` meets its contract: it lends room for the numbers.
-use Rattle.basics.proofs.Kit.{sym, ◌∙◌, ◌≤◌, length-take-le, rules, arith}
+use Rattle.basics.proofs.Kit.{sym, ◌∙◌, ◌≤◌, length-take-le, arith}
 use Rattle.image_rows.specs.Rows.{open_limit}
 use Rattle.memory_layout.proofs.Laws.{known, holds_room}
 use Rattle.call_forward.proofs.abort_open.Goals as goal

@@ -1,25 +1,13 @@
 -- `call_forward::log_aborts` meets its contract: the aborts of the first i are in the log (`Logging`).
-use Rattle.basics.proofs.Kit.{refl, length, ◌-◌, arith}
-use Rattle.call_forward.proofs.Listed.{Logging, logging_start, logging_room, logging_next, logging_end}
+use Rattle.basics.proofs.Kit.{arith}
+use Rattle.call_forward.proofs.Listed.{logging_start, logging_room, logging_next, logging_end}
 use Rattle.call_forward.proofs.log_aborts.Goals as goal
 
 pub loop-i-init : goal.loop-i-init
 loop-i-init c = logging_start c.args.log.now c.args.end c.args.numbers.now
 
-pub overflow_mul-i : goal.overflow_mul-i
-overflow_mul-i c = omega (arith, c.loop-i-test.true, c.requires.room)
-
-pub overflow_add-end : goal.overflow_add-end
-overflow_add-end c = omega (arith, c.loop-i-test.true, c.requires.room)
-
 pub append-requires : goal.append-requires
 append-requires c = logging_room c.args.log.now c.args.end c.args.numbers.now c.loop-i.log c.loop-i.i c.requires c.loop-i.invariant (omega (arith, c.loop-i-test.true))
-
-pub overflow_add-i : goal.overflow_add-i
-overflow_add-i c = omega (arith, c.loop-i-test.true, c.type_inv.numbers 0)
-
-pub loop-i-smaller : goal.loop-i-smaller
-loop-i-smaller c = omega (arith, c.loop-i-test.true)
 
 pub loop-i-preserved : goal.loop-i-preserved
 loop-i-preserved c = logging_next c.args.log.now c.args.end c.args.numbers.now c.loop-i.log c.loop-i.i c.requires c.loop-i.invariant (omega (arith, c.loop-i-test.true)) c.append.ensures

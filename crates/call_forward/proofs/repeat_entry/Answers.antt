@@ -1,5 +1,5 @@
 -- `call_forward::repeat_entry` meets its contract: a call is repeated, all else is passed over.
-use Rattle.basics.proofs.Kit.{◌≡◌, sym, subst, true, Bool, List, ℕ, [], rules}
+use Rattle.basics.proofs.Kit.{◌≡◌, sym, subst, ⊎_elim, true, Bool, List, ℕ, []}
 use Rattle.log_records.specs.declared.Entry.{Entry}
 use Rattle.log_records.specs.declared.Entry.TheVariants.{End, Malformed, Call, Mark}
 use Rattle.log_records.specs.declared.Change.{Change}
@@ -27,13 +27,7 @@ module _ (m bs : List ℕ) (h : holds_store m ≡ true) {e : Entry} where
   called {c} {ok} {m'} q o = subst (λ z. OneRepeated (entry_is z bs) m ok m') (sym q) o
 
 pub returns-in-End : goal.returns-in-End
-returns-in-End c = ended _ _ c.requires c.in-End.is
-
-pub returns-in-Malformed : goal.returns-in-Malformed
-returns-in-Malformed c = malformed _ _ c.requires c.in-Malformed.is
+returns-in-End c = ⊎_elim (ended _ _ c.requires) (⊎_elim (malformed _ _ c.requires) (λ h. marked _ _ c.requires h.2)) c.in-End.is
 
 pub returns-in-Call : goal.returns-in-Call
 returns-in-Call c = called _ _ c.requires c.in-Call.is c.repeat.ensures
-
-pub returns-in-Mark : goal.returns-in-Mark
-returns-in-Mark c = marked _ _ c.requires c.in-Mark.is

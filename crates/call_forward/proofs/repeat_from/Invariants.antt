@@ -1,8 +1,5 @@
-use Rattle.basics.proofs.Kit.{refl, ap, ◌∙◌, not-true, not-false, ◌-◌, ◌+◌, length, arith}
-use Rattle.block_forms.specs.Tuple.{AllBytes}
-use Rattle.block_forms.proofs.Spelled.{all_bytes}
-use Rattle.log_records.proofs.Walks.{small_entry}
-use Rattle.call_forward.proofs.Walking.{Turn, turn, turn_end, Going, going_start, going_end, going_next, going_stop}
+use Rattle.basics.proofs.Kit.{◌-◌, length}
+use Rattle.call_forward.proofs.Walking.{Going}
 use Rattle.call_forward.proofs.repeat_from.Given as goal
 
 abbrev pub invariant-loop-e : goal.invariant-loop-e

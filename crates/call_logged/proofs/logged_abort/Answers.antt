@@ -1,17 +1,17 @@
 -- `call_logged::logged_abort` meets its contract: an abort with room for its record, which is appended where it was done (`logged_by`).
-use Rattle.basics.proofs.Kit.{◌+◌, ◌%◌, [], length, rules, arith}
+use Rattle.basics.proofs.Kit.{◌%◌, []}
 use Rattle.model.specs.Calls.{aborts, transact}
 use Rattle.log_records.specs.Records.{aborted_by}
 use Rattle.log_records.specs.declared.Change.TheVariants.{Abort}
 use Rattle.call_logged.proofs.Logging.{Writes, ready, logged_by, writes_abort}
 use Rattle.call_logged.proofs.logged_abort.Goals as goal
 
-pub append_taken-requires : goal.append_taken-requires
+pub append_accepted-requires : goal.append_accepted-requires
 unfolding transact
-append_taken-requires c = let appends : let a = c.args in Writes (aborts a.transaction) (aborted_by a.transaction) (Abort (a.transaction % 4096)) [] (2) = let a = c.args in writes_abort a.transaction in
-    ready _ _ _ _ _ appends _ _ _ _ c.has_room-room.ensures _ _ c.end_if-a.ensures
+append_accepted-requires c = let appends : let a = c.args in Writes (aborts a.transaction) (aborted_by a.transaction) (Abort (a.transaction % 4096)) [] (2) = let a = c.args in writes_abort a.transaction in
+    ready _ _ _ _ _ appends _ _ _ _ c.has_room-room.ensures _ _ c.end_if-answer.ensures
 
 pub returns : goal.returns
 unfolding transact
 returns c = let appends : let a = c.args in Writes (aborts a.transaction) (aborted_by a.transaction) (Abort (a.transaction % 4096)) [] (2) = let a = c.args in writes_abort a.transaction in
-    logged_by _ _ _ _ _ appends _ _ _ _ c.has_room-room.ensures _ _ c.end_if-a.ensures _ _ c.append_taken.ensures
+    logged_by _ _ _ _ _ appends _ _ _ _ c.has_room-room.ensures _ _ c.end_if-answer.ensures _ _ c.append_accepted.ensures

@@ -1,10 +1,6 @@
-use Rattle.block_forms.specs.Limits.{block_limit}
-use Rattle.call_recovery.proofs.Naming.{named_below, Marked, marking_start, marking_iteration, marking_end}
-use Rattle.basics.proofs.Kit.{◌≤◌, ◌<◌, ◌-◌, length, take, arith}
+use Rattle.basics.proofs.Kit.{take}
+use Rattle.call_recovery.proofs.Naming.{Marked}
 use Rattle.call_recovery.proofs.mark_blocks.Given as goal
 
-abbrev pub invariant-loop-i : goal.invariant-loop-i
-invariant-loop-i l = (l.i ≤ length l.bs) × Marked (take l.i l.bs) l.initial.m l.m
-
-abbrev pub decreases-loop-i : goal.decreases-loop-i
-decreases-loop-i l = length l.bs - l.i
+abbrev pub invariant-loop-b : goal.invariant-loop-b
+invariant-loop-b l = Marked (take l.b-index l.bs) l.initial.m l.m

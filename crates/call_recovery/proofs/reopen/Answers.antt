@@ -1,6 +1,5 @@
 -- `call_recovery::reopen` meets its contract: the tables of counts start at zeros (`no_counts`), and each pass has what the one before it leaves.
 use Rattle.call_recovery.proofs.Owning.{no_counts}
-use Rattle.basics.proofs.Kit.{rules}
 use Rattle.call_recovery.proofs.reopen.Goals as goal
 
 pub count_rows-requires : goal.count_rows-requires

@@ -7,12 +7,7 @@ use Rattle.engine_allocator.proofs.directories_left.Goals as goal
 pub directories_for-d-requires : goal.directories_for-d-requires
 directories_for-d-requires c = omega (arith, sizes c.requires, named_read c.args.m.now c.get_counts-c.ensures)
 
-pub returns-then-d-w : goal.returns-then-d-w
-returns-then-d-w c = let m = c.args.m.now in
-    let e = ap directories_for (named_read m c.get_counts-c.ensures) in
-    (omega (arith, c.directories_for-d.ensures.0, e, directories_read m c.get_counts-c.ensures, c.if-d-w.true), omega arith)
-
 pub returns : goal.returns
 returns c = let m = c.args.m.now in
     let e = ap directories_for (named_read m c.get_counts-c.ensures) in
-    (omega (arith, c.directories_for-d.ensures.0, e, directories_read m c.get_counts-c.ensures, c.if-d-w.false), omega (arith, c.directories_for-d.ensures.1))
+    (omega (arith, c.saturating_sub.ensures, c.directories_for-d.ensures.0, e, directories_read m c.get_counts-c.ensures), omega (arith, c.saturating_sub.ensures, c.directories_for-d.ensures.1))

@@ -1,5 +1,6 @@
 -- `engine_allocator::enough_free` meets its contract. The invariant: k of the blocks passed are free; a search that ends early has found enough (`tally_end`).
-use Rattle.basics.proofs.Kit.{◌≡◌, sym, ap, Bool, not, ℕ, ◌-◌, leb, le-leb, arith}
+use Rattle.basics.proofs.Kit.{◌≡◌, refl, sym, ap, ◌∙◌, Bool, true, false, not, ℕ, ◌-◌, ◌≤◌, leb, le-leb, arith}
+use Rattle.std.specs.Int.{from_bool}
 use Rattle.memory_layout.specs.declared.Head.{Head}
 use Rattle.memory_layout.specs.Flat.{Flat, flat_of}
 use Rattle.memory_layout.specs.Store.{store_of}
@@ -13,12 +14,19 @@ use Rattle.engine_allocator.proofs.enough_free.Goals as goal
 total : (f : Flat) (n : ℕ) → n ≡ f.head.blocks → how_many (λ b. not (f.used b)) (from 1 (n - 1)) ≡ how_many (λ b. not (f.used b)) (from 1 (f.head.blocks - 1))
 total f n e = ap (λ (z : ℕ). how_many (λ b. not (f.used b)) (from 1 (z - 1))) e
 
-pub get_head-h-requires : goal.get_head-h-requires
-get_head-h-requires c = omega (arith, c.requires.range.long)
+byte_is : (b : Bool) → from_bool b ≡ one_if b
+byte_is true = refl
+byte_is false = refl
+
+byte_most : {r : ℕ} (b : Bool) → r ≡ from_bool b → r ≤ 1
+byte_most true e = omega arith
+byte_most false e = omega arith
+
+pub get_head-n-requires : goal.get_head-n-requires
+get_head-n-requires c = omega (arith, c.requires.range.long)
 
 pub loop-b-init : goal.loop-b-init
-loop-b-init c = let e = ap (λ (h : Head). h.blocks) c.get_head-h.ensures in
-    record { whole = e; least = omega arith; inside = omega (arith, c.requires.range.few); few = omega arith; rest = omega arith }
+loop-b-init c = record { whole = ap (λ (h : Head). h.blocks) c.get_head-n.ensures; few = omega arith; rest = omega arith }
 
 pub returns-then-need-k : goal.returns-then-need-k
 returns-then-need-k c = let k = c.loop-b.invariant in
@@ -30,25 +38,16 @@ is_used-requires c = let r = c.requires.range in
     (omega (arith, r.many, c.loop-b.invariant.whole), omega (arith, r.long))
 
 pub overflow_add-k : goal.overflow_add-k
-overflow_add-k c = omega (arith, c.requires.range.many, c.loop-b.invariant.few, c.loop-b.invariant.inside, c.loop-b.invariant.whole, c.one_if-k.ensures.1)
-
-pub overflow_add-b : goal.overflow_add-b
-overflow_add-b c = omega (arith, c.requires.range.many, c.loop-b.invariant.whole, c.loop-b.invariant.inside)
-
-pub loop-b-smaller : goal.loop-b-smaller
-loop-b-smaller c = omega (arith, c.loop-b-test.true)
+overflow_add-k c = omega (arith, c.requires.range.many, c.loop-b.invariant.few, c.loop-b.invariant.whole, byte_most _ c.from-k.ensures)
 
 pub loop-b-preserved : goal.loop-b-preserved
 loop-b-preserved c = let k = c.loop-b.invariant in
     let f : Flat = flat_of c.args.m.now in
-    let in-loop = c.loop-b-test.true in
-    let u = ap (λ (x : Bool). one_if (not x)) c.is_used.ensures in
+    let e = c.from-k.ensures ∙ byte_is _ ∙ ap (λ (x : Bool). one_if (not x)) c.is_used.ensures in
     record {
       whole = k.whole;
-      least = omega arith;
-      inside = omega arith;
-      few = omega (arith, k.few, c.one_if-k.ensures.1);
-      rest = omega (arith, k.rest, c.one_if-k.ensures.0, u, tally_iteration (λ b. not (f.used b)) c.loop-b.b _ in-loop);
+      few = omega (arith, k.few, byte_most _ c.from-k.ensures);
+      rest = omega (arith, k.rest, e, tally_iteration (λ b. not (f.used b)) c.loop-b.b _ c.loop-b-test.true);
     }
 
 pub returns : goal.returns

@@ -6,13 +6,8 @@ use Rattle.engine_allocator.proofs.enough_free.Given as goal
 -- k of the blocks from 1 up to, not including, b are free
 pub record Tallied (f : Flat) (n k b : ℕ) : Type 0 where
   pub whole : n ≡ f.head.blocks
-  pub least : 1 ≤ b
-  pub inside : b ≤ n
   pub few : k ≤ b
   pub rest : k + how_many (λ b. not (f.used b)) (from b (n - b)) ≡ how_many (λ b. not (f.used b)) (from 1 (n - 1))
 
 abbrev pub invariant-loop-b : goal.invariant-loop-b
 invariant-loop-b l = Tallied (flat_of l.m) l.n l.k l.b
-
-abbrev pub decreases-loop-b : goal.decreases-loop-b
-decreases-loop-b l = l.n - l.b

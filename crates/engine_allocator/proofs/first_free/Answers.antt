@@ -1,22 +1,19 @@
 -- `engine_allocator::first_free` meets its contract. The invariant: each block passed is in use, so the first free one is found from b on.
-use Rattle.basics.proofs.Kit.{refl, sym, ◌∙◌, arith}
+use Rattle.basics.proofs.Kit.{sym, ◌∙◌, arith}
 use Rattle.memory_layout.specs.Flat.{flat_of}
 use Rattle.engine_allocator.proofs.Tallies.{free_hit, free_miss, free_end}
 use Rattle.engine_allocator.proofs.first_free.Goals as goal
 
-pub loop-b-init : goal.loop-b-init
-loop-b-init c = (omega arith, (omega arith, refl))
-
 pub is_used-requires : goal.is_used-requires
-is_used-requires c = (omega arith, c.requires.head)
+is_used-requires c = (omega (arith, c.requires.most), c.requires.head)
 
 pub returns-then-not-is_used : goal.returns-then-not-is_used
 returns-then-not-is_used c = let used = (flat_of c.args.m.now).used in
-    (sym (c.loop-b.invariant.1.1 ∙ free_hit used _ _ c.loop-b-test.true (sym c.is_used.ensures ∙ c.if-not-is_used.true)), omega arith)
+    (c.loop-b.invariant ∙ free_hit used _ _ c.loop-b-test.true (sym c.is_used.ensures ∙ c.if-not-is_used.true), c.loop-b-test.true)
 
 pub loop-b-preserved : goal.loop-b-preserved
 loop-b-preserved c = let used = (flat_of c.args.m.now).used in
-    (omega arith, (omega arith, c.loop-b.invariant.1.1 ∙ free_miss used _ _ c.loop-b-test.true (sym c.is_used.ensures ∙ c.if-not-is_used.false)))
+    c.loop-b.invariant ∙ free_miss used _ _ c.loop-b-test.true (sym c.is_used.ensures ∙ c.if-not-is_used.false)
 
 pub returns : goal.returns
-returns c = (sym (c.loop-b.invariant.1.1 ∙ free_end (flat_of c.args.m.now).used _ _ c.loop-b-test.false), omega arith)
+returns c = c.loop-b.invariant ∙ free_end (flat_of c.args.m.now).used _ _ c.loop-b-test.false

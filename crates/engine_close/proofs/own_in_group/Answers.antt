@@ -10,9 +10,6 @@ any_tentative-requires c = (c.requires.0, omega (arith, c.requires.1, tagged_len
 pub overflow_add-g : goal.overflow_add-g
 overflow_add-g c = omega (arith, c.requires.1, few_tagged _ c.requires.0)
 
-pub overflow_add-result : goal.overflow_add-result
-overflow_add-result c = omega (arith, c.requires.1, few_tagged _ c.requires.0)
-
-pub returns : goal.returns
-returns c = let g = group_not_own _ c.requires.0 c.args.transaction _ c.requires.1 (sym c.any_tentative.ensures ∙ c.if-any_tentative.false) in
+pub returns-else-any_tentative : goal.returns-else-any_tentative
+returns-else-any_tentative c = let g = group_not_own _ c.requires.0 c.args.transaction _ c.requires.1 (sym c.any_tentative.ensures ∙ c.if-any_tentative.false) in
     record { low = omega arith; most = omega arith; passed = g; found = λ x. absurd (omega arith) }

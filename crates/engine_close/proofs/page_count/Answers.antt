@@ -3,4 +3,4 @@ use Rattle.memory_layout.proofs.Laws.{pages_read}
 use Rattle.engine_close.proofs.page_count.Goals as goal
 
 pub returns : goal.returns
-returns c = pages_read _ c.get_counts-n.ensures
+returns c = pages_read _ c.get_counts.ensures

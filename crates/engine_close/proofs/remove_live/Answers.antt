@@ -14,5 +14,5 @@ returns-then-is_live c = live_removed c.requires.1 c.remove_row.ensures (sym c.i
 pub overflow_add-result : goal.overflow_add-result
 overflow_add-result c = omega (arith, c.requires.1, few_tagged _ (holds_room _ c.requires.0))
 
-pub returns : goal.returns
-returns c = live_passed c.requires.0 c.requires.1 (sym c.is_live.ensures ∙ c.if-is_live.false)
+pub returns-else-is_live : goal.returns-else-is_live
+returns-else-is_live c = live_passed c.requires.0 c.requires.1 (sym c.is_live.ensures ∙ c.if-is_live.false)

@@ -3,4 +3,4 @@ use Rattle.engine_close.proofs.Memory.{rows_counted}
 use Rattle.engine_close.proofs.row_count.Goals as goal
 
 pub returns : goal.returns
-returns c = rows_counted _ c.requires c.get_counts-n.ensures
+returns c = rows_counted _ c.requires c.get_counts.ensures

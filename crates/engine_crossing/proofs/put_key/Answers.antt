@@ -1,18 +1,14 @@
--- `engine_crossing::put_key` meets its contract: four bytes set in turn are the key's four bytes put over (`put_four`).
-use Rattle.basics.proofs.Overs.{put_four}
+-- `engine_crossing::put_key` meets its contract: the key's four bytes, put over four of the buffer.
+use Rattle.basics.specs.Lists.{over}
 use Rattle.model.specs.Crossing.{key_bytes}
-use Rattle.basics.proofs.Kit.{length-set, arith}
+use Rattle.basics.proofs.Kit.{◌≡◌, ap, ◌∙◌, ap₂, drop-drop, ◌++◌, ◌+◌, ◌*◌, ◌-◌, take, drop, ℕ, List, arith}
 use Rattle.engine_crossing.proofs.put_key.Goals as goal
 
 pub returns : goal.returns
-unfolding key_bytes
-returns c = put_four _ _ _ _ _ _ (omega (arith, c.requires))
-
-pub bounds-out-n-2 : goal.bounds-out-n-2
-bounds-out-n-2 c = simp length-set (omega (arith, c.requires))
-
-pub bounds-out-n-3 : goal.bounds-out-n-3
-bounds-out-n-3 c = simp length-set (omega (arith, c.requires))
-
-pub bounds-out-n-4 : goal.bounds-out-n-4
-bounds-out-n-4 c = simp length-set (omega (arith, c.requires))
+unfolding key_bytes over
+returns c = let a = c.args in
+    let m = a.out.now in
+    let at = 4 * a.n in
+    let e : at + (at + 4 - at) ≡ at + 4 = omega arith in
+    ap₂ (λ (xs ys : List ℕ). take at m ++ (xs ++ ys)) (c.copy_from_slice.ensures.after ∙ c.to_be_bytes.ensures)
+    (drop-drop (at + 4 - at) at m ∙ ap (λ (k : ℕ). drop k m) e)

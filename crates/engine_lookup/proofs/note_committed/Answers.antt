@@ -1,9 +1,10 @@
--- `engine_lookup::note_committed` meets its contract: the first committed version and a later one.
-use Rattle.engine_lookup.proofs.Notes.{first_committed, later_committed}
+-- `engine_lookup::note_committed` meets its contract: what `or` gives.
+use Rattle.basics.proofs.Kit.{ap}
+use Rattle.std.specs.Prelude.{Option as Found}
+use Rattle.engine_lookup.specs.Lookup.{note_committed}
+use Rattle.engine_lookup.specs.declared.Visibility.{Visibility}
 use Rattle.engine_lookup.proofs.note_committed.Goals as goal
 
-pub returns-then-l-eq0 : goal.returns-then-l-eq0
-returns-then-l-eq0 c = let a = c.args in first_committed a.i a.visibility c.if-l-eq0.true
-
-pub returns-else-l-eq0 : goal.returns-else-l-eq0
-returns-else-l-eq0 c = let a = c.args in later_committed a.i a.visibility c.if-l-eq0.false
+pub returns : goal.returns
+unfolding note_committed
+returns c = ap (λ (o : Found _). let l : Visibility = record c.args.visibility { committed = o } in l) c.or.ensures

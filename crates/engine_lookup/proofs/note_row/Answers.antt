@@ -1,17 +1,10 @@
 -- `engine_lookup::note_row` meets its contract: one case for each pending operation.
-use Rattle.basics.proofs.Kit.{ap, ◌∙◌, arith}
+use Rattle.basics.proofs.Kit.{ap, ◌∙◌}
 use Rattle.block_forms.specs.Tuple as tuples
 use Rattle.memory_layout.specs.Flat.{flat_of, row_in}
 use Rattle.engine_lookup.specs.Lookup.{note_owner}
 use Rattle.engine_lookup.proofs.Notes.{note_removed, note_committing, note_other}
-use Rattle.memory_layout.proofs.Laws.{sizes}
 use Rattle.engine_lookup.proofs.note_row.Goals as goal
-
-pub note_committed-requires : goal.note_committed-requires
-note_committed-requires c = omega (arith, c.requires.1, (sizes c.requires.0).rows)
-
-pub note_owner-requires : goal.note_owner-requires
-note_owner-requires c = omega (arith, c.requires.1, (sizes c.requires.0).rows)
 
 pub returns-in-Removing : goal.returns-in-Removing
 returns-in-Removing c = let a = c.args in

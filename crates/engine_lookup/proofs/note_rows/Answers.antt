@@ -1,21 +1,9 @@
 -- `engine_lookup::note_rows` meets its contract. The invariant: the answer is what the rows from i on make of what is noted so far.
-use Rattle.basics.proofs.Kit.{refl, sym, ap, ◌∙◌, ◌+◌, ◌<◌, ◌-◌, arith}
+use Rattle.basics.proofs.Kit.{sym, ap, ◌∙◌, ◌+◌, ◌<◌, ◌-◌, arith}
 use Rattle.memory_layout.specs.Flat.{Flat, flat_of}
 use Rattle.engine_lookup.proofs.Iterations.{along, iteration_here, iteration_on, iteration_end}
 use Rattle.engine_lookup.proofs.note_rows.Goals.{then-key_at-key, else-key_at-key}
 use Rattle.engine_lookup.proofs.note_rows.Goals as goal
-
-pub loop-i-init : goal.loop-i-init
-loop-i-init c = refl
-
-pub key_at-requires : goal.key_at-requires
-key_at-requires c = (c.requires.0, omega (arith, c.requires.1, c.loop-i-test.true))
-
-pub note_row-l-requires : goal.note_row-l-requires
-note_row-l-requires c = (c.requires.0, omega (arith, c.requires.1, c.loop-i-test.true))
-
-pub loop-i-smaller : goal.loop-i-smaller
-loop-i-smaller c = omega (arith, c.loop-i-test.true)
 
 pub loop-i-preserved : goal.loop-i-preserved
 loop-i-preserved c = let a = c.args in

@@ -13,30 +13,23 @@ pub overflow_add-p : goal.overflow_add-p
 overflow_add-p c = let a = c.requires in omega (arith, a.inside, (sizes (room a)).pages)
 
 pub is_pending-hit-requires : goal.is_pending-hit-requires
-is_pending-hit-requires c = let spanned : RowRange c.args.m.now c.start_of-i.result c.start_of-e.result = page_span c.requires c.start_of-i.ensures.0 c.start_of-e.ensures.0 in
+is_pending-hit-requires c = let spanned : RowRange c.args.m.now c.start_of-s.result c.start_of-e.result = page_span c.requires c.start_of-s.ensures.0 c.start_of-e.ensures.0 in
     let g = spanned in (g.room, omega (arith, g.inside, c.loop-i-test.true))
 
-pub overflow_add-i : goal.overflow_add-i
-overflow_add-i c = let spanned : RowRange c.args.m.now c.start_of-i.result c.start_of-e.result = page_span c.requires c.start_of-i.ensures.0 c.start_of-e.ensures.0 in
-    let g = spanned in omega (arith, c.loop-i-test.true, g.inside, (sizes g.room).rows)
-
 pub returns : goal.returns
-returns c = let spanned : RowRange c.args.m.now c.start_of-i.result c.start_of-e.result = page_span c.requires c.start_of-i.ensures.0 c.start_of-e.ensures.0 in
+returns c = let spanned : RowRange c.args.m.now c.start_of-s.result c.start_of-e.result = page_span c.requires c.start_of-s.ensures.0 c.start_of-e.ensures.0 in
     any_ends c.loop-i.invariant c.loop-i-test.false
-    ∙ ap (any has_pending) (rows_by (spanned) ∙ tuples_are c.requires c.start_of-i.ensures.0 c.start_of-e.ensures.0)
+    ∙ ap (any has_pending) (rows_by (spanned) ∙ tuples_are c.requires c.start_of-s.ensures.0 c.start_of-e.ensures.0)
 
 pub start_of-e-requires : goal.start_of-e-requires
 start_of-e-requires c = next_there c.requires
 
-pub start_of-i-requires : goal.start_of-i-requires
-start_of-i-requires c = start_there c.requires
+pub start_of-s-requires : goal.start_of-s-requires
+start_of-s-requires c = start_there c.requires
 
 pub loop-i-init : goal.loop-i-init
-loop-i-init c = let spanned : RowRange c.args.m.now c.start_of-i.result c.start_of-e.result = page_span c.requires c.start_of-i.ensures.0 c.start_of-e.ensures.0 in
+loop-i-init c = let spanned : RowRange c.args.m.now c.start_of-s.result c.start_of-e.result = page_span c.requires c.start_of-s.ensures.0 c.start_of-e.ensures.0 in
     any_starts (spanned).order
-
-pub loop-i-smaller : goal.loop-i-smaller
-loop-i-smaller c = omega (arith, c.loop-i-test.true)
 
 pub loop-i-preserved : goal.loop-i-preserved
 loop-i-preserved c = any_next c.loop-i.invariant c.loop-i-test.true c.is_pending-hit.ensures

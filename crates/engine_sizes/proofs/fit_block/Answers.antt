@@ -1,5 +1,5 @@
 -- `engine_sizes::fit_block` meets its contract: few rows are small enough together (`rows_most`), and others are summed.
-use Rattle.basics.proofs.Kit.{sym, ap, ◌∙◌, ℕ, leb, le-leb, arith}
+use Rattle.basics.proofs.Kit.{sym, ◌∙◌, ◌-◌, le-leb, arith}
 use Rattle.basics.specs.Basics.{sum}
 use Rattle.block_forms.specs.Limits.{record_space}
 use Rattle.model.specs.Rules.{held_size}
@@ -9,13 +9,5 @@ use Rattle.engine_sizes.proofs.fit_block.Goals as goal
 
 pub returns-then-e-s-le-SURELY_FIT : goal.returns-then-e-s-le-SURELY_FIT
 returns-then-e-s-le-SURELY_FIT c = let a = c.args in
-    sym (le-leb (sum held_size (rows_from a.m.now a.s a.e)) record_space (omega (arith, rows_most c.requires, c.if-e-s-le-SURELY_FIT.true)))
-
-pub returns : goal.returns
-returns c = c.fits.ensures ∙ ap (λ (z : ℕ). leb z record_space) c.rows_size-size.ensures
-
-pub overflow_sub-e : goal.overflow_sub-e
-overflow_sub-e c = omega (arith, c.requires.order)
-
-pub rows_size-size-requires : goal.rows_size-size-requires
-rows_size-size-requires c = c.requires
+    le-leb (a.e - a.s) _ c.if-e-s-le-SURELY_FIT.true
+    ∙ sym (le-leb (sum held_size (rows_from a.m.now a.s a.e)) record_space (omega (arith, rows_most c.requires, c.if-e-s-le-SURELY_FIT.true)))

@@ -1,4 +1,4 @@
-use Rattle.basics.proofs.Kit.{◌≤◌, ◌-◌, length}
+use Rattle.basics.proofs.Kit.{length}
 use Rattle.block_forms.specs.Tuple.{sizes}
 use Rattle.model.specs.Rules.{shown}
 use Rattle.memory_layout.specs.Flat.{flat_of}
@@ -8,7 +8,4 @@ use Rattle.engine_writer.proofs.fill_page.Given as goal
 
 abbrev pub invariant-loop-i : goal.invariant-loop-i
 invariant-loop-i l = let all = shown (run (flat_of l.m).rows l.s l.e) in
-    (l.s ≤ l.i) × ((l.i ≤ l.e) × Filling l.block l.table l.level (length all) (sizes all) (shown (run (flat_of l.m).rows l.s l.i)) l.at)
-
-abbrev pub decreases-loop-i : goal.decreases-loop-i
-decreases-loop-i l = l.e - l.i
+    Filling l.block l.table l.level (length all) (sizes all) (shown (run (flat_of l.m).rows l.s l.i)) l.at

@@ -1,4 +1,4 @@
-use Rattle.basics.proofs.Kit.{◌≤◌, ◌-◌}
+use Rattle.basics.proofs.Kit.{◌-◌}
 use Rattle.model.specs.Rules.{shown}
 use Rattle.memory_layout.specs.Flat.{flat_of}
 use Rattle.engine_writer.proofs.Showing.{run}
@@ -6,7 +6,4 @@ use Rattle.engine_writer.proofs.Writing.{Measured}
 use Rattle.engine_writer.proofs.measure.Given as goal
 
 abbrev pub invariant-loop-i : goal.invariant-loop-i
-invariant-loop-i l = (l.s ≤ l.i) × ((l.i ≤ l.e) × Measured (l.i - l.s) (shown (run (flat_of l.m).rows l.s l.i)) l.count l.bytes)
-
-abbrev pub decreases-loop-i : goal.decreases-loop-i
-decreases-loop-i l = l.e - l.i
+invariant-loop-i l = Measured (l.i - l.s) (shown (run (flat_of l.m).rows l.s l.i)) l.count l.bytes

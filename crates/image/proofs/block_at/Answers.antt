@@ -1,9 +1,9 @@
--- `image::block_at` meets its contract: 512 bytes copied over 512 zeros are the block (`whole_copy`).
+-- `image::block_at` meets its contract: the part that is copied is the block.
+use Rattle.basics.proofs.Kit.{◌≡◌, ◌∙◌, ◌+◌, ◌*◌, ◌-◌, arith}
 use Rattle.block_forms.specs.Limits.{block_size}
-use Rattle.basics.proofs.Kit.{refl, ◌∙◌}
-use Rattle.block_forms.specs.Spell.{zeros}
-use Rattle.image.proofs.Collect.{whole_copy}
+use Rattle.image.specs.View.{block_at}
 use Rattle.image.proofs.block_at.Goals as goal
 
 pub returns : goal.returns
-returns c = c.copy.ensures ∙ whole_copy (zeros block_size) _ _ refl c.requires
+unfolding block_at
+returns c = let z : block_size * c.args.e + block_size - block_size * c.args.e ≡ block_size = omega arith in c.copy_from_slice.ensures.after ∙ rw z

@@ -1,21 +1,11 @@
--- `image_header::all_zero` meets its contract. The invariant: all numbers are 0 exactly if all from index i on are.
-use Rattle.basics.proofs.Kit.{refl, sym, ◌∙◌, eq-eqb, ne_eqb, arith}
-use Rattle.basics.proofs.Iterations.{drop_iteration, drop_end, all_yes, all_not, all_end}
+-- `image_header::all_zero` meets its contract: the library's test of all elements is `all` (`all_listed`).
+use Rattle.basics.proofs.Kit.{◌∙◌, rules}
+use Rattle.basics.proofs.Iterators.{all_listed}
+use Rattle.std.proofs.lemmas.Iterator.{YieldsList-from_slice}
+use Rattle.std.proofs.lemmas.Iterator.Search.{all_from_yields_List}
 use Rattle.image_header.specs.Names.{is_zero}
 use Rattle.image_header.proofs.all_zero.Goals as goal
 
-pub returns-then-s-i-ne0 : goal.returns-then-s-i-ne0
-unfolding is_zero
-returns-then-s-i-ne0 c = let p = c.loop-i in
-    sym (p.invariant ∙ all_not is_zero (drop_iteration c.args.s.now p.i (omega arith)) (ne_eqb _ _ c.if-s-i-ne0.true))
-
-pub loop-i-preserved : goal.loop-i-preserved
-unfolding is_zero
-loop-i-preserved c = let p = c.loop-i in
-    p.invariant ∙ all_yes is_zero (drop_iteration c.args.s.now p.i (omega arith)) (eq-eqb _ _ c.if-s-i-ne0.false)
-
 pub returns : goal.returns
-returns c = let p = c.loop-i in sym (p.invariant ∙ all_end is_zero (drop_end c.args.s.now p.i (omega arith)))
-
-pub loop-i-init : goal.loop-i-init
-loop-i-init c = refl
+unfolding is_zero
+returns c = all_from_yields_List is_zero _ _ c.all.result c.all.ensures.ran (YieldsList-from_slice c.args.s.now c.iter.ensures.rest) (λ x b q k. search rules) ∙ all_listed is_zero _

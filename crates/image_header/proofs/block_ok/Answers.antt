@@ -1,12 +1,13 @@
--- `image_header::block_ok` meets its contract, for a number above 0 and for 0.
-use Rattle.basics.proofs.Kit.{lt-ltb, le-ltb}
+-- `image_header::block_ok` meets its contract: both tests.
+use Rattle.basics.proofs.Kit.{arith}
+use Rattle.std.proofs.lemmas.Grind.{common_steps}
 use Rattle.image_header.specs.Names.{block_ok}
 use Rattle.image_header.proofs.block_ok.Goals as goal
 
 pub returns-then-b-gt0 : goal.returns-then-b-gt0
 unfolding block_ok
-returns-then-b-gt0 c = rw (lt-ltb _ _ c.if-b-gt0.true)
+returns-then-b-gt0 c = grind (arith, common_steps)
 
-pub returns : goal.returns
+pub returns-else-b-gt0 : goal.returns-else-b-gt0
 unfolding block_ok
-returns c = rw (le-ltb _ _ c.if-b-gt0.false)
+returns-else-b-gt0 c = grind (arith, common_steps)

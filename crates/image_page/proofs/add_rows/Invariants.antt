@@ -1,5 +1,4 @@
-use Rattle.basics.proofs.Kit.{◌≡◌, some, List, ◌++◌, map, ◌+◌, ◌≤◌, ◌-◌, length, take}
-use Rattle.block_forms.specs.Limits.{block_size}
+use Rattle.basics.proofs.Kit.{◌≡◌, some, List, ◌++◌, map, ◌+◌, ◌≤◌, length, take}
 use Rattle.block_reader.proofs.Walk.{Walk}
 use Rattle.image_rows.specs.Columns.{rows_in, bare}
 use Rattle.image_rows.specs.Rows.{rows_of}
@@ -8,11 +7,9 @@ use Rattle.block_forms.specs.Tuple.{Tuple}
 use Rattle.image_page.proofs.add_rows.Given as goal
 
 abbrev pub invariant-loop-i : goal.invariant-loop-i
-invariant-loop-i l = (l.i ≤ l.count) ×
-    ((l.at ≤ block_size) × ((l.to ≡ l.k + l.i) × (((length l.places ≡ length l.initial.places) ×
-    ((length l.numbers ≡ length l.initial.numbers) × ((length l.owners ≡ length l.initial.owners) × (length l.marks ≡ length l.initial.marks))))
-    × ((ts : List Tuple) → page_tuples l.count l.block ≡ some ts → Walk l.block ts l.at l.i ×
-    (rows_in l.places l.numbers l.owners l.marks l.to ≡ rows_in l.initial.places l.initial.numbers l.initial.owners l.initial.marks l.k ++ map bare (rows_of l.table (take l.i ts)))))))
-
-abbrev pub decreases-loop-i : goal.decreases-loop-i
-decreases-loop-i l = l.count - l.i
+invariant-loop-i l = record {
+  room : l.cursor.at ≤ length l.block;
+  rows : (ts : List Tuple) → page_tuples l.page.count l.block ≡ some ts → Walk l.block ts l.cursor.at l.i ×
+      (rows_in l.places l.numbers l.owners l.marks (l.k + l.i)
+      ≡ rows_in l.initial.places l.initial.numbers l.initial.owners l.initial.marks l.k ++ map bare (rows_of l.page.table (take l.i ts)));
+}

@@ -8,6 +8,6 @@ pub returns-then-x-eq0 : goal.returns-then-x-eq0
 unfolding bucket_of if'◌then◌else◌
 returns-then-x-eq0 c = (rw (eq-eqb _ _ c.if-x-eq0.true), omega arith)
 
-pub returns : goal.returns
+pub returns-else-x-eq0 : goal.returns-else-x-eq0
 unfolding bucket_of if'◌then◌else◌
-returns c = (rw (ne_eqb _ _ c.if-x-eq0.false), omega arith)
+returns-else-x-eq0 c = (rw (ne_eqb _ _ c.if-x-eq0.false), omega arith)

@@ -1,12 +1,13 @@
--- `image_rows::is_start` meets its contract, for code 0 and for every other code.
+-- `image_rows::is_start` meets its contract: both tests.
 use Rattle.image_rows.specs.Chains.{is_start}
-use Rattle.basics.proofs.Kit.{eq-eqb, ne_eqb}
+use Rattle.basics.proofs.Kit.{arith}
+use Rattle.std.proofs.lemmas.Grind.{common_steps}
 use Rattle.image_rows.proofs.is_start.Goals as goal
 
-pub returns-then-o-eq0 : goal.returns-then-o-eq0
+pub returns-then-o-ne0 : goal.returns-then-o-ne0
 unfolding is_start
-returns-then-o-eq0 c = rw (eq-eqb _ _ c.if-o-eq0.true)
+returns-then-o-ne0 c = grind (arith, common_steps)
 
-pub returns : goal.returns
+pub returns-else-o-ne0 : goal.returns-else-o-ne0
 unfolding is_start
-returns c = rw (ne_eqb _ _ c.if-o-eq0.false)
+returns-else-o-ne0 c = grind (arith, common_steps)

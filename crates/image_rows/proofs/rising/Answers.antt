@@ -14,22 +14,16 @@ pub returns-then-marks-ne0 : goal.returns-then-marks-ne0
 returns-then-marks-ne0 c = sym (rising_marked _ _ _ _ _ (omega arith) c.if-marks-ne0.true)
 
 pub loop-i-init : goal.loop-i-init
-loop-i-init c = (omega arith, (omega arith, rising_first _ _ _ _ _ (omega arith) c.if-marks-ne0.false))
+loop-i-init c = rising_first _ _ _ _ _ (omega arith) c.if-marks-ne0.false
 
 pub returns-then-not-follows : goal.returns-then-not-follows
 returns-then-not-follows c = let p = c.loop-i in
-    rising_stop _ _ _ _ p.i _ p.invariant.0 (omega (arith, c.loop-i-test)) p.invariant.1.1
-    c.follows.ensures (ap not c.if-not-follows.true)
-
-pub loop-i-smaller : goal.loop-i-smaller
-loop-i-smaller c = omega (arith, c.loop-i-test)
+    rising_stop _ _ _ _ p.i _ (omega arith) (omega arith) p.invariant c.follows.ensures (ap not c.if-not-follows.true)
 
 pub loop-i-preserved : goal.loop-i-preserved
 loop-i-preserved c = let p = c.loop-i in
-    let t = rising_iteration _ _ _ _ p.i _ p.invariant.0 (omega (arith, c.loop-i-test)) p.invariant.1.1
-    c.follows.ensures (ap not c.if-not-follows.false) in
-    (omega arith, (omega (arith, c.loop-i-test), t))
+    rising_iteration _ _ _ _ p.i _ (omega arith) (omega arith) p.invariant c.follows.ensures (ap not c.if-not-follows.false)
 
 pub returns : goal.returns
 returns c = let p = c.loop-i in
-    sym (p.invariant.1.1 ∙ pair_end follows (row_at _ _ _ _) p.i _ p.invariant.0 (omega arith))
+    sym (p.invariant ∙ pair_end follows (row_at _ _ _ _) p.i _ (omega arith) (omega arith))

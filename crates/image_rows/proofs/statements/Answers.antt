@@ -7,15 +7,12 @@ use Rattle.image_rows.proofs.statements.Goals as goal
 pub link_all-requires : goal.link_all-requires
 link_all-requires c = record { few = omega arith; rows = omega arith; linked = omega arith; empty = empty_table _ _ }
 
-pub returns-then-not-link_all : goal.returns-then-not-link_all
-returns-then-not-link_all c = let a = c.args in
-    sym (sym (statements_tests _ _ a.count c.requires.owners_hold.numbers c.requires.numbers_value)
-    ∙ rw (sym c.link_all.ensures.once ∙ c.if-not-link_all.true))
-
-pub statements_rise-requires : goal.statements_rise-requires
-statements_rise-requires c = (c.requires.owners_hold.numbers, c.link_all.ensures.made (c.if-not-link_all.false))
-
-pub returns : goal.returns
-returns c = let a = c.args in
+pub returns-then-link_all : goal.returns-then-link_all
+returns-then-link_all c = let a = c.args in
     c.statements_rise.ensures ∙ sym (sym (statements_tests _ _ a.count c.requires.owners_hold.numbers c.requires.numbers_value)
-    ∙ rw (sym c.link_all.ensures.once ∙ c.if-not-link_all.false))
+    ∙ rw (sym c.link_all.ensures.once ∙ c.if-link_all.true))
+
+pub returns-else-link_all : goal.returns-else-link_all
+returns-else-link_all c = let a = c.args in
+    c.if-link_all.false ∙ sym (sym (statements_tests _ _ a.count c.requires.owners_hold.numbers c.requires.numbers_value)
+    ∙ rw (sym c.link_all.ensures.once ∙ c.if-link_all.false))

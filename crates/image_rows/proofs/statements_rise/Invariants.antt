@@ -6,6 +6,3 @@ use Rattle.image_rows.proofs.statements_rise.Given as goal
 
 abbrev pub invariant-loop-i : goal.invariant-loop-i
 invariant-loop-i l = statements_rise l.numbers l.owners l.count ≡ all (is_next l.numbers l.owners l.count) (tab (λ j. j) l.i (l.count - l.i))
-
-abbrev pub decreases-loop-i : goal.decreases-loop-i
-decreases-loop-i l = l.count - l.i

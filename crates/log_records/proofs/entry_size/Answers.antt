@@ -1,21 +1,11 @@
 -- `log_records::entry_size` meets its contract, by what stands there.
-use Rattle.basics.proofs.Kit.{sym, ap, ◌∙◌, subst}
-use Rattle.log_records.specs.Entries.{SmallEntry, entry_size}
+use Rattle.basics.proofs.Kit.{sym, ap, ◌∙◌, ⊎_elim}
+use Rattle.log_records.specs.Entries.{entry_size}
 use Rattle.log_records.proofs.entry_size.Goals as goal
-
-pub change_size-requires : goal.change_size-requires
-change_size-requires c = subst SmallEntry c.in-Call.is c.requires
-
-pub mark_size-requires : goal.mark_size-requires
-mark_size-requires c = subst SmallEntry c.in-Mark.is c.requires
 
 pub returns-in-End : goal.returns-in-End
 unfolding entry_size
-returns-in-End c = sym (ap entry_size c.in-End.is)
-
-pub returns-in-Malformed : goal.returns-in-Malformed
-unfolding entry_size
-returns-in-Malformed c = sym (ap entry_size c.in-Malformed.is)
+returns-in-End c = ⊎_elim (λ h. sym (ap entry_size h)) (λ h. sym (ap entry_size h)) c.in-End.is
 
 pub returns-in-Call : goal.returns-in-Call
 unfolding entry_size

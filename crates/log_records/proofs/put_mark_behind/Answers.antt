@@ -1,5 +1,5 @@
 -- `log_records::put_mark_behind` meets its contract: the head's bytes, then the transactions' (`mark_put`).
-use Rattle.basics.proofs.Kit.{ap, sym, ◌∙◌, ◌∷◌, List, ℕ, ◌+◌, ◌*◌, ◌%◌, ◌/◌, length, length-append, length-set, length-take, length-drop, arith}
+use Rattle.basics.proofs.Kit.{ap, sym, ◌∙◌, ◌∷◌, List, ℕ, ◌+◌, ◌*◌, ◌%◌, ◌/◌, length, length-set, length-take, length-drop, arith}
 use Rattle.log_records.specs.Entries.{mark_size}
 use Rattle.log_records.proofs.Bytewise.{mark_bytes_lem}
 use Rattle.log_records.proofs.Stores.{mark_put}
@@ -27,10 +27,6 @@ put_transactions-requires c = record {
   count = c.requires.fits.count;
   size = simp (length-take, length-drop) (omega (arith, simp length-set at c.put4.auto.block, c.requires.size));
 }
-
-pub shape_of-part : goal.shape_of-part
-unfolding mark_size
-shape_of-part c = simp (length-append, length-take, length-drop) (omega (arith, simp length-set at c.put4.auto.block, c.put_transactions.auto.part, c.requires.size))
 
 pub returns : goal.returns
 unfolding mark_size

@@ -12,31 +12,15 @@ use Rattle.log_records.proofs.put_transactions.Goals as goal
 
 pub loop-i-init : goal.loop-i-init
 unfolding spell entry_fields
-loop-i-init c = (omega arith, refl, sym (over_nil (bits_in c.args.part.now) 0))
-
-pub put_bits-requires : goal.put_bits-requires
-put_bits-requires c = record {
-  word = omega arith;
-  within = omega (arith, c.loop-i-test.true, c.loop-i.invariant.1, c.requires.size);
-  small = omega (arith, c.loop-i-test.true, c.requires.count);
-}
-
-pub overflow_add-i : goal.overflow_add-i
-overflow_add-i c = omega (arith, c.loop-i-test.true, c.requires.count)
+loop-i-init c = (refl, sym (over_nil (bits_in c.args.part.now) 0))
 
 pub loop-i-preserved : goal.loop-i-preserved
 loop-i-preserved c = let p = c.loop-i in
     let P = c.args.part.now in
     let room = length_bits_in P in
-    let more = entry_put (bits_in P) c.args.transactions.now p.i (omega (arith, c.loop-i-test.true)) (omega (arith, c.requires.size)) p.invariant.2 c.wide.ensures
+    let more = entry_put (bits_in P) c.args.transactions.now p.i (omega (arith, c.loop-i-test.true)) (omega (arith, c.requires.size)) p.invariant.1 c.from-transaction.ensures
     c.put_bits.ensures in
-    (omega (arith, c.loop-i-test.true), omega (arith, c.put_bits.auto.block, p.invariant.1), more)
-
-pub put_bits-requires-2 : goal.put_bits-requires-2
-put_bits-requires-2 c = record { word = omega arith; within = omega (arith, c.loop-i.invariant.1, c.requires.size); small = omega (arith, c.requires.count) }
-
-pub shape_of-part : goal.shape_of-part
-shape_of-part c = omega (arith, c.put_bits-2.auto.block, c.loop-i.invariant.1)
+    (omega (arith, c.put_bits.auto.block, p.invariant.0), more)
 
 pub returns : goal.returns
 returns c = let p = c.loop-i in
@@ -44,19 +28,4 @@ returns c = let p = c.loop-i in
     let txs = c.args.transactions.now in
     let all : take p.i txs ≡ txs = take_all p.i txs (omega (arith, c.loop-i-test.false)) in
     let b = all_bytes c.put_bits-2.new.block (λ j. omega (arith, c.type_inv.part j)) in
-    entries_put P c.put_bits-2.new.block txs c.requires b (p.invariant.2 ∙ ap (λ z. over (bits_in P) 0 (spell (entry_fields z))) all) c.put_bits-2.ensures
-
-pub overflow_mul-i : goal.overflow_mul-i
-overflow_mul-i c = omega (arith, c.loop-i-test.true, c.requires.count)
-
-pub offset_bounds-transactions-i : goal.offset_bounds-transactions-i
-offset_bounds-transactions-i c = omega (arith, c.loop-i-test.true, c.requires.count)
-
-pub bounds-transactions-i : goal.bounds-transactions-i
-bounds-transactions-i c = omega (arith, c.loop-i-test.true)
-
-pub loop-i-smaller : goal.loop-i-smaller
-loop-i-smaller c = omega (arith, c.loop-i-test.true)
-
-pub overflow_mul-n : goal.overflow_mul-n
-overflow_mul-n c = omega (arith, c.requires.count)
+    entries_put P c.put_bits-2.new.block txs c.requires b (p.invariant.1 ∙ ap (λ z. over (bits_in P) 0 (spell (entry_fields z))) all) c.put_bits-2.ensures

@@ -6,7 +6,6 @@ use Rattle.basics.proofs.Kit.{◌≡◌, ◌+◌, ◌≤◌, ◌-◌}
 use Rattle.memory_bytes.proofs.count_up_to2.Given as goal
 
 abbrev pub invariant-loop-j : goal.invariant-loop-j
-invariant-loop-j l = (l.s ≤ l.j) × ((l.j ≤ l.e) × ((l.k ≤ l.j - l.s) × (how_many (up_to l.x) (tab (column2 l.m l.base) l.s (l.e - l.s)) ≡ l.k + how_many (up_to l.x) (tab (column2 l.m l.base) l.j (l.e - l.j)))))
-
-abbrev pub decreases-loop-j : goal.decreases-loop-j
-decreases-loop-j l = l.e - l.j
+invariant-loop-j l =
+    (l.k ≤ l.j - l.s)
+    × (how_many (up_to l.x) (tab (column2 l.m l.base) l.s (l.e - l.s)) ≡ l.k + how_many (up_to l.x) (tab (column2 l.m l.base) l.j (l.e - l.j)))

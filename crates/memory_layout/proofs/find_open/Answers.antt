@@ -16,7 +16,7 @@ unfolding opens_of
 loop-i-init c = let m : List ℕ = c.args.m.now in
     let tx : ℕ = c.args.transaction in
     let e : open_count m ≡ c.get4-n.result - 0 = omega (arith, c.get4-n.ensures) in
-    (c.get4-n.ensures, (omega arith, ap (λ (z : ℕ). find_open tx (tab (open_at m) 0 z)) e ∙ sym (zero-add _)))
+    (c.get4-n.ensures, ap (λ (z : ℕ). find_open tx (tab (open_at m) 0 z)) e ∙ sym (zero-add _))
 
 pub overflow_mul-i : goal.overflow_mul-i
 overflow_mul-i c = omega (arith, known _ c.requires)
@@ -28,16 +28,13 @@ pub get4-requires : goal.get4-requires
 get4-requires c = omega (arith, known _ c.requires)
 
 pub returns-then-t-transaction : goal.returns-then-t-transaction
-returns-then-t-transaction c = omega (arith, c.loop-i.invariant.1.1, find_here c.args.m.now c.args.transaction c.loop-i.i c.get4-n.result (omega arith) c.get4.ensures (omega arith))
+returns-then-t-transaction c = omega (arith, c.loop-i.invariant.1, find_here c.args.m.now c.args.transaction c.loop-i.i c.get4-n.result (omega arith) c.get4.ensures (omega arith))
 
 pub loop-i-preserved : goal.loop-i-preserved
 loop-i-preserved c = (
   c.loop-i.invariant.0,
-  (
-    omega arith,
-    omega (arith, c.loop-i.invariant.1.1, find_iteration c.args.m.now c.args.transaction c.loop-i.i c.get4-n.result (omega arith) c.get4.ensures c.if-t-transaction.false),
-  ),
+  omega (arith, c.loop-i.invariant.1, find_iteration c.args.m.now c.args.transaction c.loop-i.i c.get4-n.result (omega arith) c.get4.ensures c.if-t-transaction.false),
 )
 
 pub returns : goal.returns
-returns c = omega (arith, c.loop-i.invariant.1.1, find_end c.args.m.now c.args.transaction c.loop-i.i c.get4-n.result (omega arith))
+returns c = omega (arith, c.loop-i.invariant.1, find_end c.args.m.now c.args.transaction c.loop-i.i c.get4-n.result (omega arith))

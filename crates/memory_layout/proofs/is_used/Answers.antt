@@ -6,4 +6,4 @@ use Rattle.memory_layout.proofs.is_used.Goals as goal
 
 pub returns : goal.returns
 unfolding is_used
-returns c = rw (lt-ltb c.args.b block_limit c.requires.0) c.bit.ensures
+returns c = rw (lt-ltb c.args.b block_limit c.requires.0)

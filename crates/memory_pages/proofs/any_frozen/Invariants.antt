@@ -1,4 +1,3 @@
-use Rattle.basics.proofs.Kit.{◌-◌}
 use Rattle.memory_pages.specs.Pages.{frozen_word}
 use Rattle.memory_bytes.specs.Bytes.{column2}
 use Rattle.memory_bytes.proofs.Scans.{AnyFrom}
@@ -6,6 +5,3 @@ use Rattle.memory_pages.proofs.any_frozen.Given as goal
 
 abbrev pub invariant-loop-j : goal.invariant-loop-j
 invariant-loop-j l = AnyFrom frozen_word (column2 l.m l.at) 0 16 l.hit l.j
-
-abbrev pub decreases-loop-j : goal.decreases-loop-j
-decreases-loop-j l = 16 - l.j

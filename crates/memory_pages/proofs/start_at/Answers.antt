@@ -1,4 +1,5 @@
 -- `memory_pages::start_at` meets its contract: a page's start is stored (`start_stored`); behind the last page it is the number of rows (`start_behind`).
+use Rattle.memory_layout.proofs.Laws.{rows_length}
 use Rattle.memory_layout.specs.Flat.{capacity_of}
 use Rattle.memory_bytes.specs.Bytes.{le2}
 use Rattle.basics.proofs.Kit.{sym, ap, ◌∙◌, ℕ, ◌+◌, ◌*◌, arith}
@@ -20,4 +21,4 @@ returns-then-p-page_count c = let m = c.args.m.now in
 
 pub returns-else-p-page_count : goal.returns-else-p-page_count
 returns-else-p-page_count c = let m = c.args.m.now in
-    c.row_count.ensures ∙ sym (start_behind m (capacity_of m) c.args.p (omega arith))
+    c.row_count.ensures ∙ rows_length m ∙ sym (start_behind m (capacity_of m) c.args.p (omega arith))

@@ -5,6 +5,6 @@ use Rattle.memory_pages.specs.Pages.{TableFrom}
 use Rattle.memory_pages.proofs.Tables.{from_end}
 use Rattle.memory_pages.proofs.table_start.Goals as goal
 
-pub returns : goal.returns
-returns c = let m = c.args.m.now in let t = c.args.t in let e : t - 1 + 1 ≡ t = omega arith in
+pub returns-else-t-eq0 : goal.returns-else-t-eq0
+returns-else-t-eq0 c = let m = c.args.m.now in let t = c.args.t in let e : t - 1 + 1 ≡ t = omega arith in
     subst (λ (z : ℕ). TableFrom (flat_of m) z c.get2.result) e (from_end c.requires.0 (t - 1) (omega arith) c.get2.ensures)

@@ -8,6 +8,6 @@ pub returns-then-frozen : goal.returns-then-frozen
 unfolding word_of
 returns-then-frozen c = let b = c.args.block in ap (λ (z : Bool). b + cond z block_limit 0) (sym c.if-frozen.true)
 
-pub returns : goal.returns
+pub returns-else-frozen : goal.returns-else-frozen
 unfolding word_of
-returns c = let b = c.args.block in sym (add-zero b) ∙ ap (λ (z : Bool). b + cond z block_limit 0) (sym c.if-frozen.false)
+returns-else-frozen c = let b = c.args.block in sym (add-zero b) ∙ ap (λ (z : Bool). b + cond z block_limit 0) (sym c.if-frozen.false)

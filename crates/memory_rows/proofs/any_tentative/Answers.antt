@@ -1,6 +1,6 @@
 -- `memory_rows::any_tentative` meets its contract. The invariant (`AnyFrom`): the answer is hit, or whether one of the states from j on is below 128.
 use Rattle.memory_rows.proofs.Groups.{group_is}
-use Rattle.memory_rows.proofs.Access.{sized}
+use Rattle.memory_layout.proofs.Laws.{sized}
 use Rattle.memory_bytes.proofs.Scans.{any_starts, any_iterates, any_ends}
 use Rattle.basics.proofs.Kit.{refl, sym, ◌∙◌, arith}
 use Rattle.memory_rows.proofs.any_tentative.Goals as goal

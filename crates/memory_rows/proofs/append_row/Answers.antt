@@ -15,7 +15,7 @@ unfolding head_of
 returns c = let cap = c.capacity-c.ensures in let n = c.row_count-n in let pre = c.requires.0 in
     let full : n.result < c.capacity-c.result = omega (arith, n.ensures, cap.is, pre.more) in
     let word = c.word_of.ensures in
-    let ref = ap (λ (z : ℕ). n.result + z * slot_limit) c.pending_code.ensures.0 in
+    let ref = ap (λ (z : ℕ). n.result + z * slot_limit) c.from.ensures in
     let state = c.flags_of-state.ensures in (
       appended c.args.row cap n.ensures full pre.owner pre.payload c.requires.1 word ref state
           c.fill_slot.ensures c.put_cells.ensures c.put4.ensures,

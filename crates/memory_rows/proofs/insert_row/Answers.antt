@@ -32,5 +32,5 @@ returns c = let cap = c.capacity-c.ensures in
     let n = c.row_count-n.ensures in let s = c.free_slot-s in
     inserted c.args.row cap n (omega (arith, n, c.requires.at)) (omega (arith, n, cap.is, c.requires.more)) c.requires.owner c.requires.payload
     (omega (arith, cap.is, s.ensures.0)) s.ensures.1
-    c.word_of.ensures (ap (λ (z : ℕ). s.result + z * slot_limit) c.pending_code.ensures.0) c.flags_of-state.ensures
+    c.word_of.ensures (ap (λ (z : ℕ). s.result + z * slot_limit) c.from.ensures) c.flags_of-state.ensures
     c.fill_slot.ensures c.raise_rows.ensures c.put_cells.ensures c.put4.ensures

@@ -12,7 +12,7 @@ returns-then-keeps_owner c = let r = row_in (flat_of c.args.m.now) c.args.i in
     let e = c.is_by.ensures ∙ ap (is_by c.args.transaction) c.owner_at.ensures in
     e ∙ sym (live_is c.args.transaction r ∙ ap (λ (b : Bool). b && is_by c.args.transaction r.tuple.owner) k)
 
-pub returns : goal.returns
-returns c = let r = row_in (flat_of c.args.m.now) c.args.i in
+pub returns-else-keeps_owner : goal.returns-else-keeps_owner
+returns-else-keeps_owner c = let r = row_in (flat_of c.args.m.now) c.args.i in
     let k = ap keeps_owner (sym c.pending_at.ensures) ∙ sym c.keeps_owner.ensures ∙ c.if-keeps_owner.false in
-    sym (live_is c.args.transaction r ∙ ap (λ (b : Bool). b && is_by c.args.transaction r.tuple.owner) k)
+    c.if-keeps_owner.false ∙ sym (live_is c.args.transaction r ∙ ap (λ (b : Bool). b && is_by c.args.transaction r.tuple.owner) k)

@@ -6,6 +6,6 @@ pub returns-then-tentative : goal.returns-then-tentative
 unfolding if'◌then◌else◌
 returns-then-tentative c = rw c.if-tentative.true
 
-pub returns : goal.returns
+pub returns-else-tentative : goal.returns-else-tentative
 unfolding if'◌then◌else◌
-returns c = rw c.if-tentative.false
+returns-else-tentative c = rw c.if-tentative.false

@@ -1,25 +1,7 @@
--- `memory_bytes::search::find_equal` meets its contract. The invariant of both loops: the search from index k on has the answer of the search from i on.
-use Rattle.memory_bytes.proofs.Scans.{any_group4}
-use Rattle.basics.proofs.Searches.{first_skip, first_pass, first_hit, first_end}
-use Rattle.basics.proofs.Kit.{refl, eq-eqb, ne_eqb, arith}
+-- `memory_bytes::search::find_equal` meets its contract: that of `first_where`, with the closure's test.
+use Rattle.basics.proofs.Kit.{rules}
+use Rattle.memory_bytes.specs.Columns.{equals}
 use Rattle.memory_bytes.proofs.search.find_equal.Goals as goal
 
--- a group without a hit
-pub loop-k-preserved : goal.loop-k-preserved
-loop-k-preserved c = let a = c.args in let k = c.loop-k.k in
-    (omega arith, first_skip _ _ k a.n c.loop-k.invariant.1 16 (omega arith) (any_group4 a.m.now a.base k 16 _ c.any_equal.ensures c.if-any_equal.false))
-
-pub returns-then-get4-key : goal.returns-then-get4-key
-returns-then-get4-key c = first_hit _ _ c.loop-k-2.k c.args.n c.loop-k-2.invariant.1 (omega arith) c.get4.ensures (eq-eqb _ _ c.if-get4-key.true)
-
-pub loop-k-2-preserved : goal.loop-k-2-preserved
-loop-k-2-preserved c = (omega arith, first_pass _ _ c.loop-k-2.k c.args.n c.loop-k-2.invariant.1 (omega arith) c.get4.ensures (ne_eqb _ _ c.if-get4-key.false))
-
 pub returns : goal.returns
-returns c = first_end _ _ c.loop-k-2.k c.args.n c.loop-k-2.invariant.1 (omega arith) (omega arith)
-
-pub loop-k-init : goal.loop-k-init
-loop-k-init c = (omega arith, refl)
-
-pub loop-k-2-init : goal.loop-k-2-init
-loop-k-2-init c = c.loop-k.invariant
+returns c = c.first_where.ensures (equals c.args.key) (λ x b r e. search rules)

@@ -4,13 +4,13 @@ use Rattle.memory_bytes.proofs.Spans.{covers_none, covers_is, down_here, down_pa
 use Rattle.memory_bytes.proofs.search.first_equal16.Goals as goal
 
 pub loop-j-init : goal.loop-j-init
-loop-j-init c = (omega arith, covers_none 16)
+loop-j-init c = covers_none 16
 
 pub loop-j-preserved-then-get4-key : goal.loop-j-preserved-then-get4-key
-loop-j-preserved-then-get4-key c = (omega arith, down_here c.loop-j.invariant.1 (omega arith) refl)
+loop-j-preserved-then-get4-key c = down_here c.loop-j.invariant (omega arith) refl
 
 pub loop-j-preserved : goal.loop-j-preserved
-loop-j-preserved c = (omega arith, down_past c.loop-j.invariant.1 (omega arith) (λ q. c.if-get4-key.false (c.get4.ensures ∙ q)))
+loop-j-preserved c = down_past c.loop-j.invariant (omega arith) (λ q. c.if-get4-key.false (c.get4.ensures ∙ q))
 
 pub returns : goal.returns
-returns c = covers_is c.loop-j.invariant.1 (omega arith) refl
+returns c = covers_is c.loop-j.invariant (omega arith) refl

@@ -1,10 +1,6 @@
-use Rattle.basics.proofs.Kit.{◌≤◌}
 use Rattle.memory_bytes.specs.Bytes.{column4}
 use Rattle.memory_bytes.specs.Columns.{Covers}
 use Rattle.memory_bytes.proofs.search.first_equal16.Given as goal
 
 abbrev pub invariant-loop-j : goal.invariant-loop-j
-invariant-loop-j l = (l.j ≤ 16) × Covers (column4 l.m l.at) l.key l.j 16 l.f 16
-
-abbrev pub decreases-loop-j : goal.decreases-loop-j
-decreases-loop-j l = l.j
+invariant-loop-j l = Covers (column4 l.m l.at) l.key l.j 16 l.f 16

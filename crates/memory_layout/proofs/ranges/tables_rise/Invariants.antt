@@ -1,11 +1,8 @@
-use Rattle.basics.proofs.Kit.{◌≡◌, ◌&&◌, ◌≤◌, ◌-◌}
+use Rattle.basics.proofs.Kit.{◌≡◌, ◌&&◌, ◌-◌}
 use Rattle.basics.specs.Basics.{all, from}
 use Rattle.memory_layout.specs.Store.{tables_rise}
 use Rattle.memory_layout.proofs.Refusal.{end_rises}
 use Rattle.memory_layout.proofs.ranges.tables_rise.Given as goal
 
 abbrev pub invariant-loop-t : goal.invariant-loop-t
-invariant-loop-t l = (l.t ≤ 7) × (tables_rise l.m ≡ (l.rise && all (end_rises l.m) (from l.t (7 - l.t))))
-
-abbrev pub decreases-loop-t : goal.decreases-loop-t
-decreases-loop-t l = 7 - l.t
+invariant-loop-t l = tables_rise l.m ≡ (l.rise && all (end_rises l.m) (from l.t (7 - l.t)))

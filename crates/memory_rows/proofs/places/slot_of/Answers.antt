@@ -8,6 +8,6 @@ pub returns-then-s-c : goal.returns-then-s-c
 unfolding slot_of if'◌then◌else◌
 returns-then-s-c c = (simp (lt-ltb _ _ c.if-s-c.true), c.if-s-c.true)
 
-pub returns : goal.returns
+pub returns-else-s-c : goal.returns-else-s-c
 unfolding slot_of if'◌then◌else◌
-returns c = (simp (le-ltb _ _ c.if-s-c.false), c.requires)
+returns-else-s-c c = (simp (le-ltb _ _ c.if-s-c.false), c.requires)

@@ -5,4 +5,4 @@ use Rattle.memory_rows.proofs.shifts.copy_eight.Goals as goal
 pub returns : goal.returns
 returns c = let h = c.requires in
     copied_eight c.keys_at-keys.ensures c.refs_at-refs.ensures c.states_at-states.ensures h.first h.second
-    c.copy32.ensures c.copy16.ensures c.copy8.ensures
+    c.copy.ensures c.copy-2.ensures c.copy-3.ensures

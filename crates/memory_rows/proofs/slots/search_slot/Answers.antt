@@ -1,6 +1,6 @@
 -- `memory_rows::slots::search_slot` meets its contract. The invariant: all slots below s are taken, so that s is at most the number of rows (`fewer`).
 use Rattle.memory_rows.proofs.FreeSlots.{fewer}
-use Rattle.memory_rows.proofs.Access.{sized}
+use Rattle.memory_layout.proofs.Laws.{sized}
 use Rattle.memory_rows.specs.Cells.{is_taken}
 use Rattle.basics.proofs.Kit.{◌≡◌, sym, ◌∙◌, true, ℕ, ◌+◌, ◌<◌, below_none, below_more, arith}
 use Rattle.memory_rows.proofs.slots.search_slot.Goals as goal

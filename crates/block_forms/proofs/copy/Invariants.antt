@@ -1,9 +1,0 @@
-use Rattle.basics.proofs.Kit.{◌≡◌, ◌≤◌, ◌-◌, length, take, drop}
-use Rattle.basics.specs.Lists.{over}
-use Rattle.block_forms.proofs.copy.Given as goal
-
-abbrev pub invariant-loop-i : goal.invariant-loop-i
-invariant-loop-i l = (l.i ≤ l.len) × ((length l.block ≡ length l.initial.block) × (l.block ≡ over l.initial.block l.at (take l.i (drop l.start l.from))))
-
-abbrev pub decreases-loop-i : goal.decreases-loop-i
-decreases-loop-i l = l.len - l.i

@@ -1,6 +1,0 @@
--- `memory_bytes::copy16` meets its contract: what is read whole is what is written (`copied_over`).
-use Rattle.memory_bytes.proofs.Bytes.{copied_over}
-use Rattle.memory_bytes.proofs.copy16.Goals as goal
-
-pub returns : goal.returns
-returns c = copied_over c.args.from 16 c.copy_out.ensures c.write.ensures
