@@ -193,10 +193,12 @@ pub fn known_page(block: &[u8; block_forms::BLOCK_SIZE]) -> PageHead
 pub fn read_block(block: &[u8; block_forms::BLOCK_SIZE]) -> Option<Block>
     ensures { result ≡ reading (decode_block block.now) }
 {
-    match get32(block, 0, 4) {
+    let kind = get32(block, 0, 4);
+    match kind {
         1 => read_header(block),
         2 => read_page(block),
         3 => read_directory(block),
+        0 | 4..=15 => None,
         _ => None,
     }
 }

@@ -24,7 +24,7 @@ use Rattle.engine_pages.specs.Pages.{pages_of, page_at, entry_of, first_row}
 use Rattle.memory_layout.specs.Elements.{rows_from}
 use Rattle.engine_pages.specs.Pending.{FirstFrozen}
 use Rattle.engine_pages.proofs.Places.{from_page, page_table_lem, tuples_are}
-use Rattle.call_contracts.specs.Shape.{Stores, StoresAt}
+use Rattle.call_contracts.specs.Shape.{Answer, MemoryAfter, StoredBy, Stores, StoresAt}
 use Rattle.call_contracts.specs.declared.Reply.TheVariants.{Count}
 use Rattle.refusals.specs.declared.Refusal.{Refusal}
 use Rattle.refusals.specs.Numbers.{number}
@@ -247,12 +247,31 @@ passed_ready img m v =
     let on = by (is_running (store_of (flat_of m)).checkpoint) (λ h. h) (λ h. absurd (omega (arith, refusal_18 n m held long h))) in
     record { runs = record { has_store = held; on = on }; long = long }
 
-pub step_done : (img m img' m' : List ℕ) (k : ℕ) → Ready img m → Steps img m img' m' → k ≡ left (store_of (flat_of m')) → Stores (step_call (length img)) img m (Ok (Count k)) img' m'
-step_done img m img' m' k r d e =
-    let s : Store = store_of (flat_of m) in
-    let o : Outcome = step_at s.checkpoint s in
-    let n : k ≡ left o.store = e ∙ ap left (in_sound m' o.store d.memory.store).means in
-    stores_count (step_call (length img)) m img img' m' k o.store o.writes r.runs.has_store
-    (step_at_lem (length img) s (r.long ∙ ap (λ (b : ℕ). block_size * b) (sym (blocks_is (flat_of m))))
-    ∙ ap (λ (a : model.Answer). record { answer = a; store = o.store; writes = o.writes }) (answer_of s.checkpoint s r.runs.on ∙ ap model.count (sym n)))
-    d.memory d.image
+module _ {img m : List ℕ} (ready : Ready img m) where
+  step_is : step_call (length img) (store_of (flat_of m)) ≡ step_at (store_of (flat_of m)).checkpoint (store_of (flat_of m))
+  step_is = step_at_lem (length img) (store_of (flat_of m)) (ready.long ∙ ap (λ (b : ℕ). block_size * b) (sym (blocks_is (flat_of m))))
+
+  pub step_done : {img' m' : List ℕ} {k : ℕ} → Steps img m img' m' → k ≡ left (store_of (flat_of m')) → Stores (step_call (length img)) img m (Ok (Count k)) img' m'
+  step_done {img'} {m'} {k} d e =
+      let s : Store = store_of (flat_of m) in
+      let o : Outcome = step_at s.checkpoint s in
+      let n : k ≡ left o.store = e ∙ ap left (in_sound m' o.store d.memory.store).means in
+      stores_count (step_call (length img)) m img img' m' k o.store o.writes ready.runs.has_store
+      (step_is ∙ ap (λ (a : model.Answer). record { answer = a; store = o.store; writes = o.writes }) (answer_of s.checkpoint s ready.runs.on ∙ ap model.count (sym n)))
+      d.memory d.image
+
+  stored_by : {r : Answer} {img' m' : List ℕ} → Stores (step_call (length img)) img m r img' m'
+      → StoredBy (step_at (store_of (flat_of m)).checkpoint (store_of (flat_of m))) img m r img' m'
+  unfolding Stores StoresAt
+  stored_by {r} {img'} {m'} t = subst (λ (o : Outcome). StoredBy o img m r img' m') step_is (rw (in_some m ready.runs.has_store) at t)
+
+  -- a step that may be made is made, whatever it answers
+  pub step_taken : {r : Answer} {img' m' : List ℕ} → Stores (step_call (length img)) img m r img' m' → Steps img m img' m'
+  step_taken {r} {img'} {m'} t =
+      let s : Store = store_of (flat_of m) in
+      let o : Outcome = step_at s.checkpoint s in
+      let d = stored_by t in
+      record {
+        memory = subst (λ (a : model.Answer). MemoryAfter a o.store m m') (answer_of s.checkpoint s ready.runs.on) d.memory;
+        image = d.image;
+      }

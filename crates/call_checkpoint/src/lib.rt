@@ -337,15 +337,16 @@ pub fn step(image: &mut [u8], m: &mut [u8]) -> Answer
 
 // ---- run
 
-// Makes stores as steps do, at most as many as the limit; answers how many.
+// Makes stores by steps, at most as many as the limit; answers how many.
 pub fn run(image: &mut [u8], m: &mut [u8], limit: u64) -> Answer
     ensures { Stores (run_call limit (length image.old)) image.old m.old result image.new m.new }
 {
     check_step(image.len(), m)?;
     let left = engine_allocator::blocks_left(m, memory_pages::count_frozen(m, 0)) + 1;
     let k = limit.min(left);
-    for made in 0..k {
-        store_next(image, m);
+    // How many are due falls with each; none of these steps is refused.
+    for due in (0..k).rev() {
+        let _ = step(image, m);
     }
     Ok(Reply::Count(k))
 }

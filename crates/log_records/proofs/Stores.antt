@@ -1,6 +1,6 @@
 -- Runs of stores: a record's bytes put one after another, and the two stores of a record.
 use Rattle.basics.proofs.Kit.{◌≡◌, refl, ap, ◌∙◌, List, [], ◌∷◌, ◌++◌, append-nil, ℕ, suc, ◌+◌, ◌-◌, ◌≤◌, length, take, drop, set, arith}
-use Rattle.basics.proofs.Kit.{length-take, length-drop, take-take, take-append-le, drop_at, drop-drop, length-append, drop_of_length-le, take_all}
+use Rattle.basics.proofs.Kit.{length-take, length-drop, take-take, take-append-le, drop_at, drop-drop, drop_of_length-le, take_all}
 use borrow.Rule.Slice.PartMut.{put_mid}
 use Rattle.basics.specs.Lists.{over}
 use Rattle.basics.proofs.Overs.{set_over, set_next, over_then, over_front}
@@ -52,18 +52,23 @@ mark_put m a l {m₁} h e f =
     let none : drop (length m₁ - 5) (drop 5 m₁) ≡ [] = drop_of_length-le (drop 5 m₁) {i = length m₁ - 5} (simp length-drop (omega arith)) in
     rw (none, append-nil) (rw (f, first))
 
+-- what was lent of a log stands in it again
+abbrev pub lent_back : List ℕ → ℕ → ℕ → List ℕ → List ℕ
+lent_back log a e part = take a log ++ (part ++ drop (e - a) (drop a log))
+
 -- all behind the first byte, then that byte
-pub two_stores : (log : List ℕ) (end behind : ℕ) {f : ℕ} {part xs : List ℕ} → end + length xs ≤ length log → behind ≡ end + length xs → f ∷ part ≡ xs
-    → set (put_mid (end + 1) (behind - (end + 1)) log part) end f ≡ over log end xs
+pub two_stores : (log : List ℕ) (end behind : ℕ) {f : ℕ} {part one xs : List ℕ} → end + length xs ≤ length log → behind ≡ end + length xs → f ∷ part ≡ xs → one ≡ f ∷ []
+    → lent_back (lent_back log (end + 1) behind part) end (end + 1) one ≡ over log end xs
 unfolding over
-two_stores log end behind {f} {part} {xs} room e p =
+two_stores log end behind {f} {part} {xs = xs} room e p q =
     let Q = drop (behind - (end + 1)) (drop (end + 1) log) in
-    let M = take (end + 1) log ++ (part ++ Q) in
     let l : suc (length part) ≡ length xs = ap length p in
+    let a : end + 1 - end ≡ 1 = omega arith in
     let t : length (take (end + 1) log) ≡ end + 1 = simp length-take (omega arith) in
-    let front : take end M ≡ take end log =
+    let front : take end (take (end + 1) log ++ (part ++ Q)) ≡ take end log =
     take-append-le end (take (end + 1) log) (part ++ Q) (omega arith) ∙ take-take end (end + 1) log (omega arith) in
-    let back : drop (end + 1) M ≡ part ++ Q = drop_at (take (end + 1) log) (part ++ Q) (end + 1) t in
+    let back : drop 1 (drop end (take (end + 1) log ++ (part ++ Q))) ≡ part ++ Q =
+    drop-drop 1 end (take (end + 1) log ++ (part ++ Q)) ∙ drop_at (take (end + 1) log) (part ++ Q) (end + 1) t in
     let k : end + 1 + (behind - (end + 1)) ≡ end + length xs = omega arith in
     let last : Q ≡ drop (end + length xs) log = drop-drop (behind - (end + 1)) (end + 1) log ∙ ap (λ n. drop n log) k in
-    set_over M end f (simp length-append (omega arith)) ∙ rw (front, back, last) (ap (λ z. take end log ++ (z ++ drop (end + length xs) log)) p)
+    rw (q, a, front, back, last) (ap (λ z. take end log ++ (z ++ drop (end + length xs) log)) p)

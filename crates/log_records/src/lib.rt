@@ -1,8 +1,8 @@
-// The redo log's records as bytes. A record is written by two stores: one call is lent just the bytes behind the first and puts them, then the
-// first byte is put, which is never zero. So a record that is cut reads as the log's end.
+// The redo log's records as bytes. A record is written by two stores, each one call lent only its bytes: all behind the first byte, then that byte,
+// which is never zero. So a record that is cut reads as the log's end.
 #![tactic(auto)]
 
-ghost use Rattle.std.specs.Prelude.{◌≡◌, ◌∷◌, ◌++◌, ◌+◌, ◌*◌, ◌/◌, ◌<◌, ◌≤◌, length, drop, get_or};
+ghost use Rattle.std.specs.Prelude.{◌≡◌, [], ◌∷◌, ◌++◌, ◌+◌, ◌*◌, ◌/◌, ◌<◌, ◌≤◌, length, drop, get_or};
 ghost use Rattle.basics.specs.Lists.{over};
 ghost use Rattle.block_bits.specs.Bits.{bits_in, field};
 ghost use Rattle.block_forms.specs.Limits.{transaction_limit, most_number};
@@ -223,13 +223,23 @@ fn put_behind(part: &mut [u8], c: Change, payload: &[u8]) -> u8
     }
 }
 
+// Puts a record's first byte.
+fn put_first(part: &mut [u8], first: u8)
+    requires { length part.old ≡ 1 }
+    ensures { part.new ≡ first ∷ [] }
+{
+    part[0] = first;
+}
+
 // Writes the record of a change at the log's end.
 pub fn append(log: &mut [u8], end: usize, c: Change, payload: &[u8])
     requires { Room log.old end c payload.now }
     ensures { log.new ≡ over log.old end (encode_record (change_is c payload.now)) }
 {
+    let second = end + 1;
     let behind = end + change_size(c);
-    log[end] = put_behind(&mut log[end + 1..behind], c, payload);
+    let first = put_behind(&mut log[second..behind], c, payload);
+    put_first(&mut log[end..second], first);
 }
 
 // Puts a mark's transactions, and zero bits to a whole byte.
@@ -262,8 +272,10 @@ pub fn append_mark(log: &mut [u8], end: usize, level: u32, transactions: &[u32])
     requires { MarkRoom log.old end level transactions.now }
     ensures { log.new ≡ over log.old end (encode_record (mark_of level transactions.now)) }
 {
+    let second = end + 1;
     let behind = end + mark_size(transactions.len());
-    log[end] = put_mark_behind(&mut log[end + 1..behind], level, transactions);
+    let first = put_mark_behind(&mut log[second..behind], level, transactions);
+    put_first(&mut log[end..second], first);
 }
 
 // Zeroes the bytes lent.

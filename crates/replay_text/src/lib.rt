@@ -4,7 +4,7 @@
 
 pub mod log;
 
-ghost use Rattle.std.specs.Prelude.{◌++◌, decimal, codes, OnOk};
+ghost use Rattle.std.specs.Prelude.{◌<◌, ◌++◌, decimal, codes, OnOk};
 ghost use Rattle.std.specs.Io.KnownBytes.{Appends};
 ghost use Rattle.std.specs.Iterator.{IsFinite};
 
@@ -89,7 +89,9 @@ pub fn show(out: &mut impl Write, image: &[u8], block: usize) -> io::Result<()> 
 }
 
 // The digest with one byte more: a remainder by the largest prime of 32 bits.
-fn digest_with(d: u32, byte: u8) -> u32 {
+fn digest_with(d: u32, byte: u8) -> u32
+    ensures { result < 4294967291 }
+{
     ((31 * u64::from(d) + u64::from(byte)) % 4294967291) as u32
 }
 

@@ -6,7 +6,7 @@ use Rattle.memory_layout.specs.Flat.{flat_of}
 use Rattle.memory_layout.proofs.Laws.{holds_room}
 use Rattle.call_checkpoint.specs.Keeping.{Ready}
 use Rattle.call_checkpoint.proofs.Running.{left_is}
-use Rattle.call_checkpoint.proofs.Stepping.{frozen_all, stopped, passed_ready}
+use Rattle.call_checkpoint.proofs.Stepping.{frozen_all, stopped, passed_ready, step_taken}
 use Rattle.call_checkpoint.proofs.Repeating.{run_5, run_18, repeats_start, repeats_ready, repeats_iteration, repeats_end}
 use Rattle.call_checkpoint.proofs.run.Goals as goal
 
@@ -26,17 +26,14 @@ blocks_left-left-requires c = let ready : Ready c.args.image.now c.args.m.now = 
 pub overflow_add-left : goal.overflow_add-left
 overflow_add-left c = record { fits = omega (arith, c.blocks_left-left.ensures.1) }
 
-pub loop-made-init : goal.loop-made-init
-loop-made-init c = let ready : Ready c.args.image.now c.args.m.now = passed_ready _ _ c.in_ok-check_step.ensures in
+pub loop-due-init : goal.loop-due-init
+loop-due-init c = let ready : Ready c.args.image.now c.args.m.now = passed_ready _ _ c.in_ok-check_step.ensures in
     repeats_start _ _ _ _ (omega arith) ready (omega (arith, c.min-k.ensures, c.blocks_left-left.ensures.0, left_is (flat_of _) ready.runs.on))
 
-pub loop-made-preserved : goal.loop-made-preserved
-loop-made-preserved c = repeats_iteration c.loop-made.invariant (omega arith) (search rules) c.store_next.ensures.0
-
-pub store_next-requires : goal.store_next-requires
-store_next-requires c = repeats_ready c.loop-made.invariant (omega (arith, c.loop-made-test.true))
+pub loop-due-preserved : goal.loop-due-preserved
+loop-due-preserved c = let l = c.loop-due in repeats_iteration l.invariant (omega arith) (search rules) (step_taken (repeats_ready l.invariant (omega (arith, c.loop-due-test.true))) c.step.ensures)
 
 pub returns : goal.returns
 returns c = let ready : Ready c.args.image.now c.args.m.now = passed_ready _ _ c.in_ok-check_step.ensures in
     let l = ap (λ (n : ℕ). n + 1) c.blocks_left-left.ensures.0 ∙ left_is (flat_of _) ready.runs.on in
-    repeats_end c.loop-made.invariant (omega (arith, c.loop-made-test.false)) _ ready (c.min-k.ensures ∙ ap (min _) l) _ refl
+    repeats_end c.loop-due.invariant (omega (arith, c.loop-due-test.false)) _ ready (c.min-k.ensures ∙ ap (min _) l) _ refl

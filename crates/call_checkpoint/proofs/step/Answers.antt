@@ -14,4 +14,4 @@ pub store_next-n-requires : goal.store_next-n-requires
 store_next-n-requires c = passed_ready _ _ c.in_ok-check_step.ensures
 
 pub returns : goal.returns
-returns c = let d = c.store_next-n.ensures in step_done _ _ _ _ _ (passed_ready _ _ c.in_ok-check_step.ensures) d.0 d.1
+returns c = let d = c.store_next-n.ensures in step_done (passed_ready _ _ c.in_ok-check_step.ensures) d.0 d.1

@@ -14,18 +14,27 @@ pub slice_bounds-put_mark_behind-start : goal.slice_bounds-put_mark_behind-start
 unfolding mark_size
 slice_bounds-put_mark_behind-start c = omega (arith, c.mark_size.ensures, c.requires.room)
 
-pub put_mark_behind-requires : goal.put_mark_behind-requires
+pub put_mark_behind-first-requires : goal.put_mark_behind-first-requires
 unfolding mark_size
-put_mark_behind-requires c = record {
+put_mark_behind-first-requires c = record {
   fits = c.requires.fits;
   size = simp (length-take, length-drop) (omega (arith, c.mark_size.ensures, c.requires.room));
 }
 
-pub bounds-log-end : goal.bounds-log-end
+pub slice_bounds-put_first-end : goal.slice_bounds-put_first-end
 unfolding mark_size
-bounds-log-end c = simp (length-append, length-take, length-drop) (omega (arith, c.put_mark_behind.auto.part, c.mark_size.ensures, c.requires.room))
+slice_bounds-put_first-end c = simp (length-append, length-take, length-drop) (omega (arith, c.put_mark_behind-first.auto.part, c.mark_size.ensures, c.requires.room))
 
 pub returns : goal.returns
 returns c = let a = c.args in
     let l = length_encoded (mark_of a.level a.transactions.now) ∙ mark_size_lem a.level a.transactions.now in
-    two_stores a.log.now a.end _ (omega (arith, c.requires.room)) (omega (arith, c.mark_size.ensures)) c.put_mark_behind.ensures
+    two_stores a.log.now a.end _ (omega (arith, c.requires.room)) (omega (arith, c.mark_size.ensures)) c.put_mark_behind-first.ensures c.put_first.ensures
+
+pub mark_size-requires : goal.mark_size-requires
+mark_size-requires c = omega (arith, c.requires.fits.count)
+
+pub overflow_add-behind : goal.overflow_add-behind
+overflow_add-behind c = omega (arith, c.mark_size.ensures, c.requires.room)
+
+pub slice_bounds-put_mark_behind-end : goal.slice_bounds-put_mark_behind-end
+slice_bounds-put_mark_behind-end c = omega (arith, c.mark_size.ensures, c.requires.room)
