@@ -16,7 +16,9 @@ use Rattle.memory_layout.specs.Store.{store_in}
 use Rattle.log_records.specs.Records.{LogRecord, log_size, encode_record}
 use Rattle.log_model.specs.Logged.{LoggedOutcome, unlogged, appending, logging, mark_for}
 use Rattle.std.specs.Prelude.{Ok, Err}
+use Rattle.refusals.specs.declared.Refusal.{Refusal}
 use Rattle.refusals.specs.declared.Refusal.TheVariants.{LogFull}
+use Rattle.refusals.specs.Numbers.{number}
 use Rattle.refusals.proofs.Numbers.{only_log_full}
 use Rattle.call_contracts.specs.Shape.{Answer as Answered, meaning, bytes_of, MemoryAfter, Afterwards, Answers, AnswersAt, StoredBy, Stores, StoresAt}
 use Rattle.call_contracts.specs.Logged.{LoggedAfter, LogsAt, Logs}
@@ -58,20 +60,24 @@ means_done (Err r) e = absurd (differ (ap (λ x. (code_of x).0) e))
     differ : ◌≡◌ {A = ℕ} 0 1 → ⊥
     differ k = omega (arith, k)
 
-pub means_full : (a : Answered) → meaning a [] ≡ model.refused 29 → a ≡ Err LogFull
-means_full (Ok Done) e = absurd (differ (ap (λ x. (code_of x).0) e))
+-- an answer that means the refusal n is that refusal
+pub means_refused : (a : Answered) (n : ℕ) → meaning a [] ≡ model.refused n → (r : Refusal) × (a ≡ Err r) × (number r ≡ n)
+means_refused (Ok Done) n e = absurd (differ (ap (λ x. (code_of x).0) e))
   where
     differ : ◌≡◌ {A = ℕ} 1 0 → ⊥
     differ k = omega (arith, k)
-means_full (Ok (Count m)) e = absurd (differ (ap (λ x. (code_of x).0) e))
+means_refused (Ok (Count m)) n e = absurd (differ (ap (λ x. (code_of x).0) e))
   where
     differ : ◌≡◌ {A = ℕ} 2 0 → ⊥
     differ k = omega (arith, k)
-means_full (Ok (Filled m)) e = absurd (differ (ap (λ x. (code_of x).0) e))
+means_refused (Ok (Filled m)) n e = absurd (differ (ap (λ x. (code_of x).0) e))
   where
     differ : ◌≡◌ {A = ℕ} 3 0 → ⊥
     differ k = omega (arith, k)
-means_full (Err r) e = ap Err (only_log_full r (ap (λ x. (code_of x).1) e))
+means_refused (Err r) n e = (r, refl, ap (λ x. (code_of x).1) e)
+
+pub means_full : (a : Answered) → meaning a [] ≡ model.refused 29 → a ≡ Err LogFull
+means_full a e = let q = means_refused a 29 e in q.1 ∙ ap Err (only_log_full q.0 q.2)
 
 -- ---- logged calls
 
