@@ -66,6 +66,14 @@ window_put s p n at r k t x old new l en ea h el em eo =
     ∙ rw (em, eo, en, ← ea, bits_of_mixed r k t (field B (8 * p) w) x, bits_of_field s (8 * p) w (omega arith))
     (over_part B (bits_of k x) (8 * p) w r (omega arith) (omega arith))
 
+-- what is computed on the way to the new window fits a word
+pub window_fits : (r k t b x : ℕ) → r + (k + t) ≤ 64 → b < 2 ^ (r + (k + t)) → (b / 2 ^ (k + t) * 2 ^ k + x % 2 ^ k < 2 ^ 64) × (mixed k t b x < 2 ^ 64)
+window_fits r k t b x h hb =
+    let top : b / 2 ^ (k + t) * 2 ^ k + x % 2 ^ k < 2 ^ (r + k) = join_lt r k (b / 2 ^ (k + t)) (x % 2 ^ k) (shr_lt r (k + t) hb) (mod-lt x (pow_pos k)) in (
+      lt_of_lt_of_le top (pow_mono {j = 64} (omega arith)),
+      lt_of_lt_of_le (join_lt (r + k) t (b / 2 ^ (k + t) * 2 ^ k + x % 2 ^ k) (b % 2 ^ t) top (mod-lt b (pow_pos t))) (pow_mono {j = 64} (omega arith)),
+    )
+
 -- ---- shifts of a word
 
 -- a shift to the left that loses no bit
@@ -86,8 +94,7 @@ pub record Words (r k t b x : ℕ) : Type 0 where
 pub window_words : {r k t b : ℕ} (x : ℕ) → Middle b r k t → Words r k t b x
 window_words {r} {k} {t} {b} x m =
     let h : ℕ = b / 2 ^ (k + t) * 2 ^ k + x % 2 ^ k in
-    let top : h < 2 ^ (r + k) = join_lt r k (b / 2 ^ (k + t)) (x % 2 ^ k) (shr_lt r (k + t) m.fits) (mod-lt x (pow_pos k)) in
-    let high : h < 2 ^ 64 = lt_of_lt_of_le top (pow_mono {j = 64} (omega (arith, m.size))) in
-    let fits : h * 2 ^ t + b % 2 ^ t < 2 ^ 64 = lt_of_lt_of_le (join_lt (r + k) t h (b % 2 ^ t) top (mod-lt b (pow_pos t))) (pow_mono {j = 64} (omega (arith, m.size))) in
-    let upper : b / 2 ^ (k + t) * 2 ^ k % 2 ^ 64 + x % (1 * 2 ^ k % 2 ^ 64) ≡ h = rw (shl (b / 2 ^ (k + t)) k (omega arith), one_shl k (omega (arith, m.width))) in
-    record { upper = upper; upper_fits = high; whole = rw (upper, shl h t (omega arith), one_shl t (omega (arith, m.width))); whole_fits = fits }
+    let f = window_fits r k t b x m.size m.fits in
+    let fits : h * 2 ^ t + b % 2 ^ t < 2 ^ 64 = f.1 in
+    let upper : b / 2 ^ (k + t) * 2 ^ k % 2 ^ 64 + x % (1 * 2 ^ k % 2 ^ 64) ≡ h = rw (shl (b / 2 ^ (k + t)) k (omega (arith, f.0)), one_shl k (omega (arith, m.width))) in
+    record { upper = upper; upper_fits = f.0; whole = rw (upper, shl h t (omega (arith, fits)), one_shl t (omega (arith, m.width))); whole_fits = fits }
