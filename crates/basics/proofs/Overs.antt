@@ -1,7 +1,7 @@
 -- Laws of `over`, at lists of any length.
 use Rattle.basics.proofs.Kit.{◌≡◌, refl, sym, ◌∙◌, List, [], ◌++◌, append_assoc, ℕ, ◌+◌, ◌-◌, ◌≤◌, add-zero, add_assoc, length, take, drop, length-append, length-take, length-drop}
 use Rattle.basics.proofs.Kit.{take-append-drop, take_at, drop-append_seam, drop-drop, take-append-add, take-append-le, take-append_seam, drop-append-add, drop-append-le, drop_at, arith}
-use Rattle.basics.proofs.Kit.{ap, ◌∷◌, ◌<◌, zero-add, add-one, get_or, set, set_split, take-suc}
+use Rattle.basics.proofs.Kit.{ap, ◌∷◌, ◌<◌, zero-add, add-one, get_or, set, set_split, take-suc, get_or-drop}
 use borrow.Rule.Slice.PartMut.{put_mid}
 use Rattle.basics.specs.Lists.{over}
 
@@ -105,3 +105,12 @@ pub put_iteration : (m s : List ℕ) (at i v : ℕ) → at + i < length m → i 
 put_iteration m s at i v hm hs e =
     let l : i ≡ length (take i s) = simp length-take (omega arith) in
     set_next m (take i s) at i v l (omega arith) ∙ ap (over m at) (rw (e, add-one i) (sym (take-suc s i 0 hs)))
+
+-- one element more of a part of another list
+pub copy_iteration : (m s : List ℕ) (at start i : ℕ) → at + i < length m → start + i < length s
+    → set (over m at (take i (drop start s))) (at + i) (get_or s (start + i) 0) ≡ over m at (take (i + 1) (drop start s))
+copy_iteration m s at start i h k =
+    let d : i < length (drop start s) = rw (length-drop start s) (omega arith) in
+    let l : length (take i (drop start s)) ≡ i = simp length-take (omega arith) in
+    rw (← get_or-drop start s i 0, set_next m (take i (drop start s)) at i (get_or (drop start s) i 0) (sym l) (omega arith), add-one i)
+    (ap (over m at) (sym (take-suc (drop start s) i 0 d)))

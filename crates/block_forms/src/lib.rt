@@ -119,12 +119,15 @@ pub fn get4(block: &[u8], at: usize) -> u32
     u32::from_be_bytes([block[at], block[at + 1], block[at + 2], block[at + 3]])
 }
 
-// Copies len bytes of `from`, from start on, over those of `block` from `at` on.
+// Copies len bytes of `from`, from start on, over those of `block` from `at` on. By a loop: where the length is not fixed, the library's copy
+// becomes a call of `memmove`, which the archive for C would then need.
 pub fn copy(block: &mut [u8], at: usize, from: &[u8], start: usize, len: usize)
     requires { (at + len ≤ length block.old) × (start + len ≤ length from.now) }
     ensures { block.new ≡ over block.old at (take len (drop start from.now)) }
 {
-    block[at..at + len].copy_from_slice(&from[start..start + len]);
+    for i in 0..len {
+        block[at + i] = from[start + i];
+    }
 }
 
 // ---- a record's ninth byte and its owner's word

@@ -1,5 +1,7 @@
 -- The store restored in the second memory, copied into the first.
 use Rattle.basics.proofs.Kit.{◌≡◌, refl, sym, ap, ◌∙◌, subst, some, List, ◌++◌, ℕ, ◌≤◌, min, length, take, drop, length-append, length-drop, take_at, arith}
+use Rattle.basics.specs.Lists.{over}
+use Rattle.basics.proofs.Overs.{over_front}
 use Rattle.image.specs.Stages.{Stage, refuses, holds}
 use Rattle.model.specs.State.{Store}
 use Rattle.model.specs.Recover.{recover}
@@ -16,10 +18,10 @@ use Rattle.model.specs.State as model
 
 module _ (m s rest : List ℕ) (n : ℕ) (l : length s ≡ n) (h : n ≤ length m) where
   -- s copied over the first bytes of m
-  copied : take n (s ++ rest) ++ drop n m ≡ s ++ drop (length s) m
-  copied = (λ i. take_at s rest n l i ++ drop (sym l i) m)
+  copied : over m 0 (take n (drop 0 (s ++ rest))) ≡ s ++ drop (length s) m
+  copied = ap (over m 0) (take_at s rest n l) ∙ over_front m s
 
-  copy_holds : (m' : List ℕ) (z : Store) → m' ≡ take n (s ++ rest) ++ drop n m → store_in s ≡ some z → HoldsNow m m' z
+  copy_holds : (m' : List ℕ) (z : Store) → m' ≡ over m 0 (take n (drop 0 (s ++ rest))) → store_in s ≡ some z → HoldsNow m m' z
   copy_holds m' z e i =
       let q = e ∙ copied in
       record {
@@ -41,7 +43,7 @@ module _ (img m log : List ℕ) (k n : ℕ) (en : n ≡ min (length m) k) (s : L
       go (holds f) q = unfold RestoredBy in absurd q
 
   pub was_copied : (end : ℕ) → RestoredBy (forward_below log (recover (length s) img)) s log (Ok end) s' log'
-      → (rest m' : List ℕ) → m' ≡ take n (s' ++ rest) ++ drop n m → Forwards img m k log (record { answer = Ok Done; end = end }) m' log'
+      → (rest m' : List ℕ) → m' ≡ over m 0 (take n (drop 0 (s' ++ rest))) → Forwards img m k log (record { answer = Ok Done; end = end }) m' log'
   was_copied end b rest m' e = go (roll_forward (length m) k img log) (subst (λ st. RestoredBy st s log (Ok end) s' log') same_stage b)
     where
       go : (st : Stage Forward) → RestoredBy st s log (Ok end) s' log' → ForwardsBy st m log (record { answer = Ok Done; end = end }) m' log'

@@ -202,7 +202,7 @@ pub fn roll_forward(image: &[u8], m: &mut [u8], second: &mut [u8], log: &mut [u8
     let n = m.len().min(second.len());
     match restore(image, &mut second[..n], log) {
         Ok(end) => {
-            m[..n].copy_from_slice(&second[..n]);
+            block_forms::copy(m, 0, second, 0, n);
             Logged {
                 answer: Ok(Reply::Done),
                 end: end as u64,

@@ -32,14 +32,12 @@ place_put m a b c k h =
     )
 
 -- and a payload behind them
-pub tuple_put : (m bs : List ℕ) (tx t k : ℕ) {m₁ q : List ℕ} → m₁ ≡ over m 0 (place_rest tx t (length bs) k) → q ≡ bs → length m ≡ 7 + length bs
-    → put_mid 7 (length m₁ - 7) m₁ q ≡ place_rest tx t (length bs) k ++ bs
+pub tuple_put : (m bs : List ℕ) (tx t k : ℕ) {m₁ m₂ : List ℕ} → m₁ ≡ over m 0 (place_rest tx t (length bs) k) → m₂ ≡ over m₁ 7 (take (length bs) (drop 0 bs))
+    → length m ≡ 7 + length bs → m₂ ≡ place_rest tx t (length bs) k ++ bs
 unfolding be4
-tuple_put m bs tx t k {m₁} e f h =
+tuple_put m bs tx t k e f h =
     let P = place_rest tx t (length bs) k in
-    let first : m₁ ≡ P ++ drop 7 m = e ∙ over_front m P in
-    let none : drop (length m₁ - 7) (drop 7 m₁) ≡ [] = drop_of_length-le (drop 7 m₁) {i = length m₁ - 7} (simp length-drop (omega arith)) in
-    rw (none, append-nil) (rw (f, first))
+    f ∙ rw (e, take_all (length bs) bs (omega arith), over_then m P bs 0 7 refl (omega arith)) (over_whole m (P ++ bs) (omega arith))
 
 -- a byte and a number's four, and what was put behind them
 pub mark_put : (m : List ℕ) (a l : ℕ) {m₁ p q : List ℕ} → 5 ≤ length m → m₁ ≡ over (set m 0 a) 1 (be4 l) → p ≡ q

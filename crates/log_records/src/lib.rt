@@ -181,7 +181,7 @@ fn put_tuple(
     ensures { result ∷ part.new ≡ place_bytes (number_of kind) transaction table (length payload.now) key ++ payload.now }
 {
     put_place(part, transaction, table, key, payload.len());
-    part[PLACE - 1..].copy_from_slice(payload);
+    block_forms::copy(part, PLACE - 1, payload, 0, payload.len());
     first_byte(kind, transaction)
 }
 

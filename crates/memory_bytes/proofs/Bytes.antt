@@ -1,9 +1,9 @@
 -- Numbers and bytes read before and after a change of other bytes, and behind one that moved or wrote them.
-use Rattle.basics.proofs.Kit.{◌≡◌, sym, ap, ◌∙◌, List, ◌∷◌, ◌++◌, append-nil, ℕ, ◌+◌, ◌%◌, ◌≤◌, ◌<◌, ◌/◌, add-zero, zero-add, length, take, drop, get_or}
-use Rattle.basics.proofs.Kit.{replicate, length-replicate, drop_of_length-le, get_or-drop, get_or-take, ext_get_or, arith}
+use Rattle.basics.proofs.Kit.{◌≡◌, sym, ap, ◌∙◌, ⊎_elim, List, ◌∷◌, ◌++◌, append-nil, ℕ, ◌+◌, ◌%◌, ◌≤◌, ◌<◌, ◌/◌, ◌-◌, add-zero, zero-add, length, take, drop, get_or, length-append, length-drop}
+use Rattle.basics.proofs.Kit.{replicate, length-replicate, drop_of_length-le, List·getD-append, get_or-drop, get_or-take, get_or-append-add, ext_get_or, arith}
 use Rattle.memory_bytes.specs.Bytes.{le2, le4, bytes, bytes2, bytes4, Apart, Raised, Lowered, Wrote}
 use Rattle.basics.proofs.Overs.{length_part}
-use Rattle.basics.proofs.Tabs.{tab_cong, tab_self, length_tab, get_d_tab}
+use Rattle.basics.proofs.Tabs.{lt_or_ge, tab_cong, tab_self, length_tab, get_d_tab}
 
 pub length_bytes : (m : List ℕ) (a n : ℕ) → length (bytes m a n) ≡ n
 unfolding bytes
@@ -109,3 +109,15 @@ pub copied_whole : (m : List ℕ) (a n : ℕ) {ys : List ℕ} → ys ≡ bytes m
 copied_whole m a n e =
     let h : length (replicate {A = ℕ} n 0) ≤ n = omega (arith, length-replicate {A = ℕ} n 0) in
     e ∙ ap (λ (z : List ℕ). bytes m a n ++ z) (drop_of_length-le (replicate n 0) h) ∙ append-nil (bytes m a n)
+
+-- written from the first byte on
+pub front_wrote : {m m' xs : List ℕ} → Wrote m m' 0 xs → length xs ≤ length m → m' ≡ xs ++ drop (length xs) m
+front_wrote {m} {m'} {xs} s h =
+    let n : ℕ = length xs in
+    ext_get_or 0 m' (xs ++ drop n m) (s.apart.size ∙ simp (length-append, length-drop) (omega arith))
+    (λ i b. ⊎_elim
+    (λ p. ap (λ (z : ℕ). get_or m' z 0) (sym (zero-add i)) ∙ s.here i p ∙ sym (List·getD-append xs (drop n m) 0 i p))
+    (λ p. let e : i ≡ n + (i - n) = omega arith in
+    s.apart.above i (omega arith) ∙ ap (λ (z : ℕ). get_or m z 0) e
+    ∙ sym (ap (λ (z : ℕ). get_or (xs ++ drop n m) z 0) e ∙ get_or-append-add xs (drop n m) (i - n) 0 ∙ get_or-drop n m (i - n) 0))
+    (lt_or_ge i n))

@@ -1,5 +1,5 @@
--- Changes of bytes: one is written, and the numbers of a column are d more.
-use Rattle.basics.proofs.Kit.{◌≡◌, refl, sym, ap, ◌∙◌, subst, ⊎_elim, List, [], ◌∷◌, ℕ, ◌+◌, ◌*◌, ◌%◌, ◌≤◌, ◌<◌, add-zero, length, get_or, set, length-set, get_or-set_same}
+-- Changes of bytes: some are written, and the numbers of a column are d more.
+use Rattle.basics.proofs.Kit.{◌≡◌, refl, sym, ap, ◌∙◌, subst, ⊎_elim, List, [], ◌∷◌, ℕ, ◌+◌, ◌*◌, ◌%◌, ◌≤◌, ◌<◌, add-zero, zero-add, length, get_or, set, length-set, get_or-set_same}
 use Rattle.basics.proofs.Kit.{get_or-set_other, arith}
 use Rattle.memory_bytes.specs.Bytes.{le2, bytes2, Wrote, Added}
 use Rattle.basics.proofs.Tabs.{lt_or_ge}
@@ -18,6 +18,47 @@ wrote1 m a v h =
       here = λ k p.
           let e : 0 ≡ k = omega arith in
           subst (λ (z : ℕ). get_or (set m a v) (a + z) 0 ≡ get_or (v ∷ []) z 0) e (rw add-zero (get_or-set_same m a v 0 h));
+    }
+
+-- ---- bytes are written: the first j of them are
+
+pub record Writing (m m' : List ℕ) (a : ℕ) (xs : List ℕ) (j : ℕ) : Type 0 where
+  pub size : length m' ≡ length m
+  pub done : (k : ℕ) → k < j → get_or m' (a + k) 0 ≡ get_or xs k 0
+  pub below : (b : ℕ) → b < a → get_or m' b 0 ≡ get_or m b 0
+  pub above : (b : ℕ) → a + j ≤ b → get_or m' b 0 ≡ get_or m b 0
+
+pub write_start : (m : List ℕ) (a : ℕ) (xs : List ℕ) → Writing m m a xs 0
+write_start m a xs = record { size = refl; done = λ k p. absurd (omega arith); below = λ b p. refl; above = λ b p. refl }
+
+pub write_iteration : {m m' : List ℕ} {a : ℕ} {xs : List ℕ} {j v : ℕ} → Writing m m' a xs j → a + j < length m → v ≡ get_or xs j 0
+    → Writing m (set m' (a + j) v) a xs (j + 1)
+write_iteration {m} {m'} {a} {xs} {j} {v} s h w =
+    let l : length m' ≡ length m = s.size in
+    record {
+      size = length-set m' (a + j) v ∙ l;
+      done = λ k p. ⊎_elim
+          (λ r. get_or-set_other m' (a + j) (a + k) v 0 (λ z. omega arith) ∙ s.done k r)
+          (λ r.
+          let e : k ≡ j = omega arith in
+          ap (λ (z : ℕ). get_or (set m' (a + j) v) (a + z) 0) e
+          ∙ get_or-set_same m' (a + j) v 0 (omega arith)
+          ∙ w
+          ∙ ap (λ (z : ℕ). get_or xs z 0) (sym e))
+          (lt_or_ge k j);
+      below = λ b p. get_or-set_other m' (a + j) b v 0 (λ z. omega arith) ∙ s.below b p;
+      above = λ b p. get_or-set_other m' (a + j) b v 0 (λ z. omega arith) ∙ s.above b (omega arith);
+    }
+
+-- written from the first byte on
+pub write_front : {m m' xs : List ℕ} {j v : ℕ} → Writing m m' 0 xs j → j < length m → v ≡ get_or xs j 0 → Writing m (set m' j v) 0 xs (j + 1)
+write_front {m} {m'} {xs} {j} {v} s h w = subst (λ (z : ℕ). Writing m (set m' z v) 0 xs (j + 1)) (zero-add j) (write_iteration s (omega arith) w)
+
+pub write_end : {m m' : List ℕ} {a : ℕ} {xs : List ℕ} {j : ℕ} → Writing m m' a xs j → j ≡ length xs → Wrote m m' a xs
+write_end s e =
+    record {
+      apart = record { size = s.size; below = s.below; above = λ b h. s.above b (omega arith) };
+      here = λ k h. s.done k (omega arith);
     }
 
 -- ---- numbers of two bytes are d more: those below j are

@@ -54,14 +54,17 @@ pub fn put4(m: &mut [u8], a: usize, x: u32)
     m[a..a + 4].copy_from_slice(&x.to_le_bytes());
 }
 
-// ---- bytes written
+// ---- bytes written. By loops: where the length is not fixed, the library's copy becomes a call of `memmove`, which the archive for C would then
+// need.
 
 // src, over the bytes from a on.
 pub fn write(m: &mut [u8], a: usize, src: &[u8])
     requires { a + length src.now ≤ length m.old }
     ensures { Wrote m.old m.new a src.now }
 {
-    m[a..a + src.len()].copy_from_slice(src);
+    for j in 0..src.len() {
+        m[a + j] = src[j];
+    }
 }
 
 // n zeros, over the bytes from a on.
@@ -77,7 +80,9 @@ pub fn copy_out(m: &[u8], a: usize, n: usize, out: &mut [u8])
     requires { (a + n ≤ length m.now) × (n ≤ length out.old) }
     ensures { out.new ≡ bytes m.now a n ++ drop n out.old }
 {
-    out[..n].copy_from_slice(&m[a..a + n]);
+    for j in 0..n {
+        out[j] = m[a + j];
+    }
 }
 
 // The N bytes from `from` on, over those from `to` on. They are read whole before they are written, so that the two places may overlap.
