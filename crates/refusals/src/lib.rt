@@ -1,7 +1,7 @@
 // Why a call is refused. docs/RULES.md says when each refusal is given; its number there is the variant's.
 #![tactic(auto)]
 
-ghost use Rattle.std.specs.Prelude.{◌≡◌};
+ghost use Rattle.std.specs.Prelude.{◌≡◌, ◌++◌, codes, decimal, Some};
 ghost use Rattle.refusals.specs.Numbers.{number};
 
 use std::error::Error;
@@ -51,6 +51,8 @@ impl From<Refusal> for u64 {
 }
 
 impl fmt::Display for Refusal {
+    ghost output = { λ refusal. Some (codes "refused " ++ decimal (number refusal)) };
+
     fn fmt<W: fmt::Write>(&self, f: &mut fmt::Formatter<W>) -> fmt::Result {
         write!(f, "refused {}", u64::from(*self))
     }

@@ -3,8 +3,8 @@
 #![tactic(auto)]
 
 use replay_image::Areas;
-use replay_log::Log;
-use replay_memory::{Area, first};
+use replay_log::LogArea;
+use replay_memory::{Area, lend};
 use replay_script::{Start, say, start_of};
 use replay_text::bad_line;
 use replay_text::log::line_of;
@@ -26,7 +26,7 @@ const LOG_SIZE: usize = 65536;
 struct Workspace {
     areas: Areas,
     second: Vec<u8>,
-    log: Log,
+    log: LogArea,
 }
 
 impl Workspace {
@@ -38,7 +38,7 @@ impl Workspace {
                 memory: Area::new(vec![in alloc; 0; MEMORY_SIZE]?),
             },
             second: vec![in alloc; 0; MEMORY_SIZE]?,
-            log: Log::new(vec![in alloc; 0; LOG_SIZE]?),
+            log: LogArea::new(vec![in alloc; 0; LOG_SIZE]?),
         })
     }
 
@@ -59,7 +59,7 @@ impl Workspace {
             out,
             self.areas.image.first(bytes),
             self.areas.memory.first(room),
-            first(&mut self.second, second),
+            lend(&mut self.second, second as u64),
         )?;
         self.areas.lend_after(a, bytes, room);
         Ok(())

@@ -3,51 +3,67 @@
 #![tactic(auto)]
 
 use call_contracts::{Answer, Logged, Reply};
-use replay_memory::Area;
+use replay_memory::lend;
 use replay_script::{Call, Room, call_of, say};
-use replay_text::bad_line;
 use replay_text::log::{Line, show_bytes, tear};
+use replay_text::{bad_line, say_digest, say_line};
 use std::io;
 use std::io::Write;
 
-// The log, the lent part of an area, and the end that the next logged call takes.
-#[derive(Drop)]
+// How many bytes the log has, and the end that the next logged call takes.
+#[derive(Clone, Copy)]
 pub struct Log {
-    area: Area,
-    end: u64,
+    pub len: u64,
+    pub end: u64,
 }
 
-impl Log {
+// An area of bytes, and the log in it.
+#[derive(Drop)]
+pub struct LogArea {
+    bytes: Vec<u8>,
+    pub log: Log,
+}
+
+impl LogArea {
     // Before its first line a script has no log.
-    pub fn new(bytes: Vec<u8>) -> Log {
-        Log {
-            area: Area::new(bytes),
-            end: 0,
+    pub fn new(bytes: Vec<u8>) -> LogArea {
+        LogArea {
+            bytes,
+            log: Log { len: 0, end: 0 },
         }
     }
 
     // A new log of n zeros.
     pub fn start(&mut self, n: usize) {
-        self.area.clear(n);
-        self.end = 0;
+        self.bytes.fill(0);
+        self.log = Log {
+            len: n as u64,
+            end: 0,
+        };
+    }
+
+    // The log's bytes.
+    fn lent(&mut self) -> &mut [u8] {
+        lend(&mut self.bytes, self.log.len)
     }
 
     // Prints a logged answer. If the call was accepted, its end is the one that the next takes.
     fn answered(&mut self, out: &mut impl Write, l: Logged) -> io::Result<()> {
         let end = l.end;
         match l.answer {
-            Ok(Reply::Done) => writeln!(out, "done {end}")?,
+            Ok(Reply::Done) => say_line(out, b"done ", end)?,
             Ok(Reply::Count(n)) => writeln!(out, "{n} {end}")?,
             Ok(Reply::Filled(n)) => writeln!(out, "{n} {end}")?,
             Err(refusal) => return writeln!(out, "{refusal}"),
         }
-        self.end = end;
+        self.log.end = end;
         Ok(())
     }
 
     // Makes a call; none if it is not logged.
     fn call(&mut self, call: Call<'_>, m: &mut [u8]) -> Option<Logged> {
-        let (log, end) = (self.area.lent(), self.end);
+        let end = self.log.end;
+        let log = self.lent();
         Some(match call {
             Call::Open(t) => store::logged_open(m, log, end, t),
             Call::Commit(t) => store::logged_commit(m, log, end, t),
@@ -106,7 +122,7 @@ impl Log {
         m: &mut [u8],
         second: &mut [u8],
     ) -> io::Result<Answer> {
-        let l = store::roll_forward(image, m, second, self.area.lent());
+        let l = store::roll_forward(image, m, second, self.lent());
         self.answered(out, l)?;
         Ok(l.answer)
     }
@@ -119,12 +135,12 @@ impl Log {
                 say(out, b"log\n")
             }
             Line::End(n) => {
-                self.end = n;
-                replay_text::say_line(out, b"end ", n)
+                self.log.end = n;
+                say_line(out, b"end ", n)
             }
-            Line::Tear(at, word) => tear(out, self.area.lent(), at, word),
-            Line::Bytes(at, count) => show_bytes(out, self.area.lent(), at, count),
-            Line::Digest => replay_text::say_digest(out, self.area.lent()),
+            Line::Tear(at, word) => tear(out, self.lent(), at, word),
+            Line::Bytes(at, count) => show_bytes(out, self.lent(), at, count),
+            Line::Digest => say_digest(out, self.lent()),
             Line::Logged(call) => self.logged(out, call, m),
         }
     }

@@ -17,8 +17,14 @@ const REPLY_SIZE: usize = 4096;
 // ---- what is lent
 
 // The first n bytes; all if there are fewer.
-pub fn first(s: &mut [u8], n: usize) -> &mut [u8] {
-    let n = n.min(s.len());
+pub fn first(s: &[u8], n: u64) -> &[u8] {
+    let n = n.min(s.len() as u64) as usize;
+    &s[..n]
+}
+
+// The first n bytes, to be written; all if there are fewer.
+pub fn lend(s: &mut [u8], n: u64) -> &mut [u8] {
+    let n = n.min(s.len() as u64) as usize;
     &mut s[..n]
 }
 
@@ -40,17 +46,17 @@ impl Area {
     }
 
     pub fn first(&mut self, n: usize) -> &mut [u8] {
-        first(&mut self.bytes, n)
+        lend(&mut self.bytes, n as u64)
     }
 
     // The part that is lent.
     pub fn lent(&mut self) -> &mut [u8] {
-        first(&mut self.bytes, self.lent)
+        lend(&mut self.bytes, self.lent as u64)
     }
 
     // The first bytes that a call asks for, or what is lent.
     pub fn part(&mut self, asked: Option<usize>) -> &mut [u8] {
-        first(&mut self.bytes, asked.unwrap_or(self.lent))
+        lend(&mut self.bytes, asked.unwrap_or(self.lent) as u64)
     }
 
     // From now on the first n bytes are lent.
@@ -90,16 +96,22 @@ fn filled(a: Answer) -> Option<usize> {
 
 fn read(out: &mut impl Write, m: &[u8], t: Target, room: usize) -> io::Result<()> {
     let mut reply = [0; REPLY_SIZE];
-    let a = store::read(m, t.transaction, t.table, t.key, first(&mut reply, room));
+    let a = store::read(
+        m,
+        t.transaction,
+        t.table,
+        t.key,
+        lend(&mut reply, room as u64),
+    );
     match filled(a) {
-        Some(len) => replay_text::say_payload(out, first(&mut reply, len)),
+        Some(len) => replay_text::say_payload(out, first(&reply, len as u64)),
         None => say_answer(out, a),
     }
 }
 
 fn crossing(out: &mut impl Write, m: &[u8], i: Interval, room: usize) -> io::Result<()> {
     let mut reply = [0; REPLY_SIZE];
-    let to = first(&mut reply, room);
+    let to = lend(&mut reply, room as u64);
     let a = store::crossing(m, i.transaction, i.table, i.first, i.end, to);
     match filled(a) {
         Some(count) => replay_text::say_crossing(out, &reply, count),
@@ -109,7 +121,7 @@ fn crossing(out: &mut impl Write, m: &[u8], i: Interval, room: usize) -> io::Res
 
 fn list(out: &mut impl Write, m: &[u8], room: usize) -> io::Result<()> {
     let mut reply = [0; REPLY_SIZE];
-    let a = store::list(m, first(&mut reply, room));
+    let a = store::list(m, lend(&mut reply, room as u64));
     match filled(a) {
         Some(count) => replay_text::say_listing(out, &reply, count),
         None => say_answer(out, a),

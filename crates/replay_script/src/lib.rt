@@ -75,17 +75,22 @@ pub enum Call<'r> {
 }
 
 // Room for more bytes of a payload, and of opening hours, than any call accepts: of longer ones the first bytes meet the same refusal.
+pub const PAYLOAD_ROOM: usize = 64;
+
+pub const HOURS_ROOM: usize = 160;
+
+// Room for the bytes of a line's call.
 #[derive(Drop)]
 pub struct Room {
-    payload: [u8; 64],
-    hours: [u8; 160],
+    payload: [u8; PAYLOAD_ROOM],
+    hours: [u8; HOURS_ROOM],
 }
 
 impl Room {
     pub fn new() -> Room {
         Room {
-            payload: [0; 64],
-            hours: [0; 160],
+            payload: [0; PAYLOAD_ROOM],
+            hours: [0; HOURS_ROOM],
         }
     }
 }

@@ -65,7 +65,8 @@ pub fn bad_line<W: Write>(out: &mut W) -> io::Result<()>
 }
 
 pub fn fill(out: &mut impl Write, image: &mut [u8], block: usize, byte: u8) -> io::Result<()> {
-    let Some(filled) = image.chunks_exact_mut(BLOCK_SIZE).nth(block) else {
+    let (blocks, _) = image.as_chunks_mut::<BLOCK_SIZE>();
+    let Some(filled) = blocks.get_mut(block) else {
         return bad_line(out);
     };
     filled.fill(byte);
