@@ -6,11 +6,10 @@ use replay_image::Areas;
 use replay_log::LogArea;
 use replay_memory::{Area, lend};
 use replay_script::{Start, say, start_of};
-use replay_text::bad_line;
 use replay_text::log::line_of;
 use std::alloc::Global;
 use std::io::{BufWriter, Read, Write};
-use std::{io, str};
+use std::io;
 
 // Room for a script; for an image of one block more than a store may have; for a memory of more than the largest store; and for a log.
 const SCRIPT_SIZE: u64 = 1048576;
@@ -82,7 +81,7 @@ impl Workspace {
         }
     }
 
-    fn line(&mut self, out: &mut impl Write, line: &str) -> io::Result<()> {
+    fn line(&mut self, out: &mut impl Write, line: &[u8]) -> io::Result<()> {
         if let Some(what) = line_of(line) {
             return self.log.line(out, what, self.areas.memory.lent());
         }
@@ -92,13 +91,10 @@ impl Workspace {
         }
     }
 
-    // All lines, the last with or without a newline. One that is no text is as bad as one that is no call.
+    // All lines, the last with or without a newline.
     fn replay(&mut self, out: &mut impl Write, script: &[u8]) -> io::Result<()> {
         for line in script.split_inclusive(|b| *b == b'\n') {
-            match str::from_utf8(line.strip_suffix(b"\n").unwrap_or(line)) {
-                Ok(line) => self.line(out, line)?,
-                Err(_) => bad_line(out)?,
-            }
+            self.line(out, line.strip_suffix(b"\n").unwrap_or(line))?;
         }
         Ok(())
     }

@@ -103,7 +103,7 @@ impl LogArea {
     }
 
     // A line's call behind the word `logged`.
-    fn logged(&mut self, out: &mut impl Write, line: &str, m: &mut [u8]) -> io::Result<()> {
+    fn logged(&mut self, out: &mut impl Write, line: &[u8], m: &mut [u8]) -> io::Result<()> {
         let mut room = Room::new();
         let made = match call_of(line, &mut room) {
             Some(call) => self.call(call, m),

@@ -9,7 +9,7 @@ ghost use Rattle.std.specs.Io.KnownBytes.{Appends};
 
 use std::io::Write;
 use std::str::Split;
-use std::{fmt, io};
+use std::{fmt, io, str};
 use words::{bytes, ended, interval, last_number, number, target};
 
 // ---- what a line says
@@ -97,8 +97,9 @@ impl Room {
 
 // ---- lines
 
-pub fn start_of(line: &str) -> Option<Start> {
-    let mut words = line.split(' ');
+// None also of a line that is no text, as of any other that starts nothing.
+pub fn start_of(line: &[u8]) -> Option<Start> {
+    let mut words = str::from_utf8(line).ok()?.split(' ');
     let start = match words.next()? {
         "make" => Start::Make {
             bytes: number(&mut words)?,
@@ -161,8 +162,8 @@ fn call_in<'r>(words: &mut Split<'_, char>, room: &'r mut Room) -> Option<Call<'
 }
 
 // The call of a line, its payload and opening hours in room.
-pub fn call_of<'r>(line: &str, room: &'r mut Room) -> Option<Call<'r>> {
-    let mut words = line.split(' ');
+pub fn call_of<'r>(line: &[u8], room: &'r mut Room) -> Option<Call<'r>> {
+    let mut words = str::from_utf8(line).ok()?.split(' ');
     let call = call_in(&mut words, room)?;
     ended(&mut words, call)
 }

@@ -66,11 +66,11 @@ fn byte_of(digits: &[u8; 2]) -> Option<u8> {
 }
 
 // How many bytes a word of hexadecimal digits spells, none by a dash. Those for which there is room go into out.
-pub fn bytes_of(word: &str, out: &mut [u8]) -> Option<usize> {
-    if word == "-" {
+pub fn bytes_of(word: &[u8], out: &mut [u8]) -> Option<usize> {
+    if word == b"-".as_slice() {
         return Some(0);
     }
-    let (pairs, odd) = word.as_bytes().as_chunks::<2>();
+    let (pairs, odd) = word.as_chunks::<2>();
     if pairs.is_empty() || !odd.is_empty() {
         return None;
     }
@@ -85,7 +85,7 @@ pub fn bytes_of(word: &str, out: &mut [u8]) -> Option<usize> {
 
 // The bytes that the next word spells, as many as there is room for.
 pub fn bytes<'r>(words: &mut Split<'_, char>, room: &'r mut [u8]) -> Option<&'r [u8]> {
-    let count = bytes_of(words.next()?, room)?;
+    let count = bytes_of(words.next()?.as_bytes(), room)?;
     let kept = count.min(room.len());
     Some(&room[..kept])
 }

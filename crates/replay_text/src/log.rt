@@ -2,8 +2,8 @@
 use super::bad_line;
 use replay_script::words::{bytes_of, ended, number};
 use replay_script::{Hex, say};
-use std::io;
 use std::io::Write;
+use std::{io, str};
 
 // What a line does with the log: a new one of so many bytes; the end that the next logged call takes; a place, and the bytes in hexadecimal that
 // overwrite it or how many are printed, from there on; its digest; or the logged call that the rest of the line says.
@@ -11,22 +11,22 @@ use std::io::Write;
 pub enum Line<'a> {
     Start(usize),
     End(u64),
-    Tear(usize, &'a str),
+    Tear(usize, &'a [u8]),
     Bytes(usize, usize),
     Digest,
-    Logged(&'a str),
+    Logged(&'a [u8]),
 }
 
 // None if the line is not about the log.
-pub fn line_of(line: &str) -> Option<Line<'_>> {
-    if let Some(call) = line.strip_prefix("logged ") {
+pub fn line_of(line: &[u8]) -> Option<Line<'_>> {
+    if let Some(call) = line.strip_prefix(b"logged ") {
         return Some(Line::Logged(call));
     }
-    let mut words = line.split(' ');
+    let mut words = str::from_utf8(line).ok()?.split(' ');
     let what = match words.next()? {
         "log" => Line::Start(number(&mut words)?),
         "end" => Line::End(number(&mut words)?),
-        "tear" => Line::Tear(number(&mut words)?, words.next()?),
+        "tear" => Line::Tear(number(&mut words)?, words.next()?.as_bytes()),
         "bytes" => Line::Bytes(number(&mut words)?, number(&mut words)?),
         "logdigest" => Line::Digest,
         _ => return None,
@@ -37,7 +37,7 @@ pub fn line_of(line: &str) -> Option<Line<'_>> {
 // ---- bytes
 
 // The bytes that a word spells, over the log's from a place on.
-fn overwrite(log: &mut [u8], at: usize, word: &str) -> Option<()> {
+fn overwrite(log: &mut [u8], at: usize, word: &[u8]) -> Option<()> {
     let torn = log.get_mut(at..)?;
     // They are counted first: those of a word that is refused leave the log as it was.
     if torn.len() < bytes_of(word, &mut [])? {
@@ -47,7 +47,7 @@ fn overwrite(log: &mut [u8], at: usize, word: &str) -> Option<()> {
     Some(())
 }
 
-pub fn tear(out: &mut impl Write, log: &mut [u8], at: usize, word: &str) -> io::Result<()> {
+pub fn tear(out: &mut impl Write, log: &mut [u8], at: usize, word: &[u8]) -> io::Result<()> {
     match overwrite(log, at, word) {
         Some(()) => say(out, b"torn\n"),
         None => bad_line(out),
