@@ -248,8 +248,8 @@ passed_ready img m v =
     record { runs = record { has_store = held; on = on }; long = long }
 
 module _ {img m : List ℕ} (ready : Ready img m) where
-  step_is : step_call (length img) (store_of (flat_of m)) ≡ step_at (store_of (flat_of m)).checkpoint (store_of (flat_of m))
-  step_is = step_at_lem (length img) (store_of (flat_of m)) (ready.long ∙ ap (λ (b : ℕ). block_size * b) (sym (blocks_is (flat_of m))))
+  call_is : step_call (length img) (store_of (flat_of m)) ≡ step_at (store_of (flat_of m)).checkpoint (store_of (flat_of m))
+  call_is = step_at_lem (length img) (store_of (flat_of m)) (ready.long ∙ ap (λ (b : ℕ). block_size * b) (sym (blocks_is (flat_of m))))
 
   pub step_done : {img' m' : List ℕ} {k : ℕ} → Steps img m img' m' → k ≡ left (store_of (flat_of m')) → Stores (step_call (length img)) img m (Ok (Count k)) img' m'
   step_done {img'} {m'} {k} d e =
@@ -257,20 +257,20 @@ module _ {img m : List ℕ} (ready : Ready img m) where
       let o : Outcome = step_at s.checkpoint s in
       let n : k ≡ left o.store = e ∙ ap left (in_sound m' o.store d.memory.store).means in
       stores_count (step_call (length img)) m img img' m' k o.store o.writes ready.runs.has_store
-      (step_is ∙ ap (λ (a : model.Answer). record { answer = a; store = o.store; writes = o.writes }) (answer_of s.checkpoint s ready.runs.on ∙ ap model.count (sym n)))
+      (call_is ∙ ap (λ (a : model.Answer). record { answer = a; store = o.store; writes = o.writes }) (answer_of s.checkpoint s ready.runs.on ∙ ap model.count (sym n)))
       d.memory d.image
 
-  stored_by : {r : Answer} {img' m' : List ℕ} → Stores (step_call (length img)) img m r img' m'
+  stored_by : (r : Answer) {img' m' : List ℕ} → Stores (step_call (length img)) img m r img' m'
       → StoredBy (step_at (store_of (flat_of m)).checkpoint (store_of (flat_of m))) img m r img' m'
   unfolding Stores StoresAt
-  stored_by {r} {img'} {m'} t = subst (λ (o : Outcome). StoredBy o img m r img' m') step_is (rw (in_some m ready.runs.has_store) at t)
+  stored_by r {img'} {m'} t = subst (λ (o : Outcome). StoredBy o img m r img' m') call_is (rw (in_some m ready.runs.has_store) at t)
 
   -- a step that may be made is made, whatever it answers
-  pub step_taken : {r : Answer} {img' m' : List ℕ} → Stores (step_call (length img)) img m r img' m' → Steps img m img' m'
-  step_taken {r} {img'} {m'} t =
+  pub step_taken : (r : Answer) {img' m' : List ℕ} → Stores (step_call (length img)) img m r img' m' → Steps img m img' m'
+  step_taken r {img'} {m'} t =
       let s : Store = store_of (flat_of m) in
       let o : Outcome = step_at s.checkpoint s in
-      let d = stored_by t in
+      let d = stored_by r t in
       record {
         memory = subst (λ (a : model.Answer). MemoryAfter a o.store m m') (answer_of s.checkpoint s ready.runs.on) d.memory;
         image = d.image;

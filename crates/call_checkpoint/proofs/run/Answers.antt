@@ -31,7 +31,7 @@ loop-due-init c = let ready : Ready c.args.image.now c.args.m.now = passed_ready
     repeats_start _ _ _ _ (omega arith) ready (omega (arith, c.min-k.ensures, c.blocks_left-left.ensures.0, left_is (flat_of _) ready.runs.on))
 
 pub loop-due-preserved : goal.loop-due-preserved
-loop-due-preserved c = let l = c.loop-due in repeats_iteration l.invariant (omega arith) (search rules) (step_taken (repeats_ready l.invariant (omega (arith, c.loop-due-test.true))) c.step.ensures)
+loop-due-preserved c = let l = c.loop-due in repeats_iteration l.invariant (omega arith) (search rules) (step_taken (repeats_ready l.invariant (omega (arith, c.loop-due-test.true))) _ c.step.ensures)
 
 pub returns : goal.returns
 returns c = let ready : Ready c.args.image.now c.args.m.now = passed_ready _ _ c.in_ok-check_step.ensures in
