@@ -13,13 +13,13 @@ pub overflow_sub-c : goal.overflow_sub-c
 overflow_sub-c c = omega (arith, c.requires.1.start, named_read c.args.m.now c.get_counts-c.ensures)
 
 pub named_from-entries-requires : goal.named_from-entries-requires
-named_from-entries-requires c = let run = run_most c.requires.1.start c.min-count.ensures (named_read c.args.m.now c.get_counts-c.ensures) in (c.requires.0, record { few = run.few; inside = run.inside })
+named_from-entries-requires c = let run = run_most c.requires.1.start (omega (arith, c.min-count.ensures)) (named_read c.args.m.now c.get_counts-c.ensures) in (c.requires.0, record { few = run.few; inside = run.inside })
 
 pub slice_bounds-write_directory-end : goal.slice_bounds-write_directory-end
-slice_bounds-write_directory-end c = omega (arith, (run_most c.requires.1.start c.min-count.ensures (named_read c.args.m.now c.get_counts-c.ensures)).few)
+slice_bounds-write_directory-end c = omega (arith, (run_most {count = c.min-count.result} c.requires.1.start (omega (arith, c.min-count.ensures)) (named_read c.args.m.now c.get_counts-c.ensures)).few)
 
 pub write_directory-requires : goal.write_directory-requires
-write_directory-requires c = (omega arith, simp length-take (omega (arith, (run_most c.requires.1.start c.min-count.ensures (named_read c.args.m.now c.get_counts-c.ensures)).few)))
+write_directory-requires c = (omega arith, simp length-take (omega (arith, (run_most {count = c.min-count.result} c.requires.1.start (omega (arith, c.min-count.ensures)) (named_read c.args.m.now c.get_counts-c.ensures)).few)))
 
 pub returns : goal.returns
 returns c = let f = c.named_from-entries in
@@ -27,4 +27,4 @@ returns c = let f = c.named_from-entries in
     let e : n - 0 ≡ n = omega arith in
     c.write_directory.ensures
     ∙ ap (λ (l : List ℕ). encode_block (directory c.args.level l))
-    (ap (λ (z : ℕ). take z f.result) e ∙ f.ensures ∙ (run_most c.requires.1.start c.min-count.ensures (named_read c.args.m.now c.get_counts-c.ensures)).whole)
+    (ap (λ (z : ℕ). take z f.result) e ∙ f.ensures ∙ (run_most c.requires.1.start (omega (arith, c.min-count.ensures)) (named_read c.args.m.now c.get_counts-c.ensures)).whole)
