@@ -8,8 +8,8 @@ use replay_memory::{Area, lend};
 use replay_script::{Start, say, start_of};
 use replay_text::log::line_of;
 use std::alloc::Global;
-use std::io::{BufWriter, Read, Write};
 use std::io;
+use std::io::{BufWriter, Read, Write};
 
 // Room for a script; for an image of one block more than a store may have; for a memory of more than the largest store; and for a log.
 const SCRIPT_SIZE: u64 = 1048576;
