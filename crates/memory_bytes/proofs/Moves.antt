@@ -1,7 +1,7 @@
--- Changes of bytes: some are written, and the numbers of a column are d more.
-use Rattle.basics.proofs.Kit.{◌≡◌, refl, sym, ap, ◌∙◌, subst, ⊎_elim, List, [], ◌∷◌, ℕ, ◌+◌, ◌*◌, ◌%◌, ◌≤◌, ◌<◌, add-zero, zero-add, length, get_or, set, length-set, get_or-set_same}
+-- Changes of bytes: some go up, some are written, and the numbers of a column are d more.
+use Rattle.basics.proofs.Kit.{◌≡◌, refl, sym, ap, ◌∙◌, subst, ⊎_elim, List, [], ◌∷◌, ℕ, ◌+◌, ◌*◌, ◌%◌, ◌≤◌, ◌<◌, ◌-◌, add-zero, zero-add, length, get_or, set, length-set, get_or-set_same}
 use Rattle.basics.proofs.Kit.{get_or-set_other, arith}
-use Rattle.memory_bytes.specs.Bytes.{le2, bytes2, Wrote, Added}
+use Rattle.memory_bytes.specs.Bytes.{le2, bytes2, Raised, Wrote, Added}
 use Rattle.basics.proofs.Tabs.{lt_or_ge}
 use Rattle.memory_bytes.proofs.Bytes.{le2_below, le2_above, le2_wrote}
 
@@ -18,6 +18,46 @@ wrote1 m a v h =
       here = λ k p.
           let e : 0 ≡ k = omega arith in
           subst (λ (z : ℕ). get_or (set m a v) (a + z) 0 ≡ get_or (v ∷ []) z 0) e (rw add-zero (get_or-set_same m a v 0 h));
+    }
+
+-- ---- bytes go up by w: those from k on have
+
+pub record Raising (m m' : List ℕ) (hi w k : ℕ) : Type 0 where
+  pub size : length m' ≡ length m
+  pub done : (b : ℕ) → k ≤ b → b < hi → get_or m' (b + w) 0 ≡ get_or m b 0
+  pub left : (b : ℕ) → b < k + w → get_or m' b 0 ≡ get_or m b 0
+  pub above : (b : ℕ) → hi + w ≤ b → get_or m' b 0 ≡ get_or m b 0
+
+pub raise_start : (m : List ℕ) (hi w : ℕ) → Raising m m hi w hi
+raise_start m hi w = record { size = refl; done = λ b p q. absurd (omega arith); left = λ b p. refl; above = λ b p. refl }
+
+pub raise_iteration : {m m' : List ℕ} {hi w k : ℕ} → Raising m m' hi w k → 0 < k → k ≤ hi → hi + w ≤ length m
+    → Raising m (set m' (k - 1 + w) (get_or m' (k - 1) 0)) hi w (k - 1)
+raise_iteration {m} {m'} {hi} {w} {k} s h1 h2 h3 =
+    let v : ℕ = get_or m' (k - 1) 0 in
+    let at : ℕ = k - 1 + w in
+    let l : length m' ≡ length m = s.size in
+    record {
+      size = length-set m' at v ∙ l;
+      done = λ b p q. ⊎_elim
+          (λ r. get_or-set_other m' at (b + w) v 0 (λ z. omega arith) ∙ s.done b (omega arith) q)
+          (λ r.
+          let e : b + w ≡ at = omega arith in
+          let e2 : k - 1 ≡ b = omega arith in
+          ap (λ (z : ℕ). get_or (set m' at v) z 0) e
+          ∙ get_or-set_same m' at v 0 (omega arith)
+          ∙ s.left (k - 1) (omega arith)
+          ∙ ap (λ (z : ℕ). get_or m z 0) e2)
+          (lt_or_ge (k - 1) b);
+      left = λ b p. get_or-set_other m' at b v 0 (λ z. omega arith) ∙ s.left b (omega arith);
+      above = λ b p. get_or-set_other m' at b v 0 (λ z. omega arith) ∙ s.above b p;
+    }
+
+pub raise_end : {m m' : List ℕ} {hi w k : ℕ} (lo : ℕ) → Raising m m' hi w k → lo ≤ k → k ≤ lo → lo ≤ hi → Raised m m' lo hi w
+raise_end lo s p q r =
+    record {
+      apart = record { size = s.size; below = λ b h. s.left b (omega arith); above = λ b h. s.above b (omega arith) };
+      moved = λ b h1 h2. s.done b (omega arith) h2;
     }
 
 -- ---- bytes are written: the first j of them are

@@ -97,12 +97,15 @@ pub fn copy<const N: usize>(m: &mut [u8], from: usize, to: usize)
 
 // ---- bytes moved by the width of a column
 
-// The bytes from lo up to, not including, hi go up by w.
+// The bytes from lo up to, not including, hi go up by w: from the last one down, so that each is read before it is written over. By a loop, as
+// above: of a fixed width `copy_within` too becomes a call of `memmove`.
 pub fn raise(m: &mut [u8], lo: usize, hi: usize, w: usize)
     requires { (lo ≤ hi) × (hi + w ≤ length m.old) }
     ensures { Raised m.old m.new lo hi w }
 {
-    m.copy_within(lo..hi, lo + w);
+    for k in (lo..hi).rev() {
+        m[k + w] = m[k];
+    }
 }
 
 // The bytes from lo + w up to, not including, hi go down by w.
