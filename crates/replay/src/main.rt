@@ -5,11 +5,12 @@
 use replay_image::Areas;
 use replay_log::LogArea;
 use replay_memory::{Area, lend};
-use replay_script::{Start, say, start_of};
-use replay_text::log::line_of;
+use replay_script::{Start, say, start_of_text};
+use replay_text::bad_line;
+use replay_text::log::line_of_text;
 use std::alloc::Global;
-use std::io;
 use std::io::{BufWriter, Read, Write};
+use std::{io, str};
 
 // Room for a script; for an image of one block more than a store may have; for a memory of more than the largest store; and for a log.
 const SCRIPT_SIZE: u64 = 1048576;
@@ -81,20 +82,23 @@ impl Workspace {
         }
     }
 
-    fn line(&mut self, out: &mut impl Write, line: &[u8]) -> io::Result<()> {
-        if let Some(what) = line_of(line) {
+    fn line(&mut self, out: &mut impl Write, line: &str) -> io::Result<()> {
+        if let Some(what) = line_of_text(line) {
             return self.log.line(out, what, self.areas.memory.lent());
         }
-        match start_of(line) {
+        match start_of_text(line) {
             Some(start) => self.start(out, start),
             None => self.areas.line(out, line),
         }
     }
 
-    // All lines, the last with or without a newline.
+    // All lines, the last with or without a newline. One that is no text is as bad as one that is no call.
     fn replay(&mut self, out: &mut impl Write, script: &[u8]) -> io::Result<()> {
         for line in script.split_inclusive(|b| *b == b'\n') {
-            self.line(out, line.strip_suffix(b"\n").unwrap_or(line))?;
+            match str::from_utf8(line.strip_suffix(b"\n").unwrap_or(line)) {
+                Ok(line) => self.line(out, line)?,
+                Err(_) => bad_line(out)?,
+            }
         }
         Ok(())
     }

@@ -64,9 +64,9 @@ impl Areas {
     }
 
     // Replays a line that leaves what is lent.
-    pub fn line(&mut self, out: &mut impl Write, line: &[u8]) -> io::Result<()> {
+    pub fn line(&mut self, out: &mut impl Write, line: &str) -> io::Result<()> {
         let mut room = Room::new();
-        match replay_script::call_of(line, &mut room) {
+        match replay_script::call_of_text(line, &mut room) {
             Some(call) => self.call(out, call),
             None => replay_text::bad_line(out),
         }

@@ -4,7 +4,7 @@
 
 use call_contracts::{Answer, Logged, Reply};
 use replay_memory::lend;
-use replay_script::{Call, Room, call_of, say};
+use replay_script::{Call, Room, call_of_text, say};
 use replay_text::log::{Line, show_bytes, tear};
 use replay_text::{bad_line, say_digest, say_line};
 use std::io;
@@ -103,9 +103,9 @@ impl LogArea {
     }
 
     // A line's call behind the word `logged`.
-    fn logged(&mut self, out: &mut impl Write, line: &[u8], m: &mut [u8]) -> io::Result<()> {
+    fn logged(&mut self, out: &mut impl Write, line: &str, m: &mut [u8]) -> io::Result<()> {
         let mut room = Room::new();
-        let made = match call_of(line, &mut room) {
+        let made = match call_of_text(line, &mut room) {
             Some(call) => self.call(call, m),
             None => None,
         };

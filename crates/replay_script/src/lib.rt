@@ -99,7 +99,11 @@ impl Room {
 
 // None also of a line that is no text, as of any other that starts nothing.
 pub fn start_of(line: &[u8]) -> Option<Start> {
-    let mut words = str::from_utf8(line).ok()?.split(' ');
+    start_of_text(str::from_utf8(line).ok()?)
+}
+
+pub fn start_of_text(line: &str) -> Option<Start> {
+    let mut words = line.split(' ');
     let start = match words.next()? {
         "make" => Start::Make {
             bytes: number(&mut words)?,
@@ -161,9 +165,13 @@ fn call_in<'r>(words: &mut Split<'_, char>, room: &'r mut Room) -> Option<Call<'
     Some(call)
 }
 
-// The call of a line, its payload and opening hours in room.
+// The call of a line, its payload and opening hours in room; none of a line that is no text.
 pub fn call_of<'r>(line: &[u8], room: &'r mut Room) -> Option<Call<'r>> {
-    let mut words = str::from_utf8(line).ok()?.split(' ');
+    call_of_text(str::from_utf8(line).ok()?, room)
+}
+
+pub fn call_of_text<'r>(line: &str, room: &'r mut Room) -> Option<Call<'r>> {
+    let mut words = line.split(' ');
     let call = call_in(&mut words, room)?;
     ended(&mut words, call)
 }

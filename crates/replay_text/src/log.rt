@@ -14,15 +14,19 @@ pub enum Line<'a> {
     Tear(usize, &'a [u8]),
     Bytes(usize, usize),
     Digest,
-    Logged(&'a [u8]),
+    Logged(&'a str),
 }
 
-// None if the line is not about the log.
+// None if the line is not about the log, as one that is no text.
 pub fn line_of(line: &[u8]) -> Option<Line<'_>> {
-    if let Some(call) = line.strip_prefix(b"logged ") {
+    line_of_text(str::from_utf8(line).ok()?)
+}
+
+pub fn line_of_text(line: &str) -> Option<Line<'_>> {
+    if let Some(call) = line.strip_prefix("logged ") {
         return Some(Line::Logged(call));
     }
-    let mut words = str::from_utf8(line).ok()?.split(' ');
+    let mut words = line.split(' ');
     let what = match words.next()? {
         "log" => Line::Start(number(&mut words)?),
         "end" => Line::End(number(&mut words)?),
